@@ -18,7 +18,7 @@ use Rattle.counted_order.specs.Parting.{PartInLanes, HasPassed}
 use Rattle.counted_order.proofs.Above.{HangsFrom, split, same_level}
 use Rattle.counted_order.proofs.Parted.{Level, level}
 use Rattle.counted_order.proofs.Paths.{HangsAt, hangs_path, region_above, same_front, unordered_parts, parts_unordered}
-use Rattle.explain.specs.Finding.{IsFound, Finds}
+use Rattle.explain.specs.Finding.{IsFound, FindsMarked}
 use Rattle.explain.specs.Witness.{IsLaneAbove, HoldsGoodRun}
 use Rattle.explain.specs.declared.finding.Found.{Found}
 use Rattle.explain.specs.declared.finding.Mark.TheVariants as mark
@@ -107,7 +107,7 @@ module _ (content : Content) (dir : List ℕ) (rows : List Row) (trace : Trace) 
         }
 
     -- it is there
-    not_none : Finds (mark.Region region) log.task.records None → ⊥
+    not_none : FindsMarked (mark.Region region) log.task.records None → ⊥
     not_none none =
         let long : depth + 1 < length x.path = slice_get_within x.path (depth + 1) step is_step in
         let t = through (logs_of trace) x depth tree here long in
@@ -121,7 +121,7 @@ module _ (content : Content) (dir : List ℕ) (rows : List Row) (trace : Trace) 
         ap (λ (l : List Record). region_count (take t.above.index l)) (sym records) ∙ (sym t.hangs.number ∙ (ap (λ (s : Step). s.region) is ∙ number)) in
         none (take t.above.index log.task.records) (drop (suc t.above.index) log.task.records) event (parted log.task.records t.above.index event found) (t.hangs.region.kind_is, regions)
 
-    pub region_passed : (answer : Option Found) (n : Option ℕ) → Finds (mark.Region region) log.task.records answer → MatchOption answer (n ≡ None) (λ (one : Found). n ≡ Some one.barriers)
+    pub region_passed : (answer : Option Found) (n : Option ℕ) → FindsMarked (mark.Region region) log.task.records answer → MatchOption answer (n ≡ None) (λ (one : Found). n ≡ Some one.barriers)
         → IsSomeAnd n (HasPassed (logs_of trace) x depth)
     region_passed None n none is = absurd (not_none none)
     region_passed (Some found) n f is = subst (λ (o : Option ℕ). IsSomeAnd o (HasPassed (logs_of trace) x depth)) (sym is) (found_passed found f)

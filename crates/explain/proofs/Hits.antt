@@ -26,37 +26,34 @@ IsNoHit trace lines x y = (byte : ℕ) → RacesOn (logs_of trace) lines x y byt
 not_less : (a b : ℕ) → (a < b → ⊥) → b ≤ a
 not_less a b never = elim (cases_order a b) [ inl same ↦ omega (arith, same) | inr (inl less) ↦ absurd (never less) | inr (inr above) ↦ omega (arith, above) ]
 
-pub hit_here : (c : Content) (trace : Trace) (lines : ℕ × ℕ) (x : Node) (at : ℕ) (reading : Reading) (place : Place) (s : Scans c trace at reading place (IsNoHit trace lines x)) (hit : Hit) → hit.number ≡ place.records + 1
-    → RacesOn (logs_of trace) lines x (next_node c trace at reading place (IsNoHit trace lines x) s) hit.byte → FindsHit trace lines x at (Some hit)
-hit_here c trace lines x at reading place s hit number races = record {
-  y = next_node c trace at reading place (IsNoHit trace lines x) s;
-  stands = next_in_log c trace at reading place (IsNoHit trace lines x) s;
-  number_is = number ∙ number_of c trace at reading place (IsNoHit trace lines x) s;
-  races = races;
-  least = λ z byte in_z other. not_less z.index (length s.given) (λ less. s.each z in_z less byte other);
-}
+module _ {c : Content} {trace : Trace} {at : ℕ} {reading : Reading} {place : Place} (lines : ℕ × ℕ) where
+  module _ (x : Node) (s : Scans c trace at reading place (IsNoHit trace lines x)) where
+    pub hit_here : (hit : Hit) → hit.number ≡ place.records + 1 → RacesOn (logs_of trace) lines x (next_node s) hit.byte → FindsHit trace lines x at (Some hit)
+    hit_here hit number races = record {
+      y = next_node s;
+      stands = next_in_log s;
+      number_is = number ∙ number_of s;
+      races = races;
+      least = λ z byte in_z other. not_less z.index (length s.given) (λ less. s.each z in_z less byte other);
+    }
 
-pub no_hit : (c : Content) (trace : Trace) (lines : ℕ × ℕ) (x : Node) (at : ℕ) (reading : Reading) (place : Place) (s : Scans c trace at reading place (IsNoHit trace lines x)) (after : Reading)
-    → GivesNext c s.left None after → FindsHit trace lines x at None
-no_hit c trace lines x at reading place s after gives y byte in_y races =
-    scans_all c trace at reading place (IsNoHit trace lines x) s after gives y in_y (record_there (logs_of trace) y races.s races.race.right) byte races
+    pub no_hit : (after : Reading) → GivesNext c s.left None after → FindsHit trace lines x at None
+    no_hit after gives y byte in_y races = scans_all s after gives y in_y (record_there (logs_of trace) y races.s races.race.right) byte races
 
-pub race_here : (c : Content) (trace : Trace) (lines : ℕ × ℕ) (at : ℕ) (reading : Reading) (place : Place) (s : Scans c trace at reading place (HasNoPartner trace lines at)) (found : RacePair) (partner : Partner)
-    → found.first_row ≡ at + 1 → found.first ≡ place.records + 1 → partner ≡ record { row = found.second_row; hit = record { number = found.second; byte = found.byte } }
-    → IsFirstPartner trace lines at (next_node c trace at reading place (HasNoPartner trace lines at) s) partner → FindsRace trace lines at (Some found)
-race_here c trace lines at reading place s found partner row number same first = record {
-  x = next_node c trace at reading place (HasNoPartner trace lines at) s;
-  stands = next_in_log c trace at reading place (HasNoPartner trace lines at) s;
-  row_is = row;
-  number_is = number ∙ number_of c trace at reading place (HasNoPartner trace lines at) s;
-  partner = subst (IsFirstPartner trace lines at (next_node c trace at reading place (HasNoPartner trace lines at) s)) same first;
-  least = λ z in_z less. s.each z in_z less;
-}
+  module _ (s : Scans c trace at reading place (HasNoPartner trace lines at)) where
+    pub race_here : (found : RacePair) (partner : Partner) → found.first_row ≡ at + 1 → found.first ≡ place.records + 1
+        → partner ≡ record { row = found.second_row; hit = record { number = found.second; byte = found.byte } } → IsFirstPartner trace lines at (next_node s) partner → FindsRace trace lines at (Some found)
+    race_here found partner row number same first = record {
+      x = next_node s;
+      stands = next_in_log s;
+      row_is = row;
+      number_is = number ∙ number_of s;
+      partner = subst (IsFirstPartner trace lines at (next_node s)) same first;
+      least = λ z in_z less. s.each z in_z less;
+    }
 
-pub no_race_here : (c : Content) (trace : Trace) (lines : ℕ × ℕ) (at : ℕ) (reading : Reading) (place : Place) (s : Scans c trace at reading place (HasNoPartner trace lines at)) (after : Reading)
-    → GivesNext c s.left None after → FindsRace trace lines at None
-no_race_here c trace lines at reading place s after gives x in_x other y byte later in_y races =
-    scans_all c trace at reading place (HasNoPartner trace lines at) s after gives x in_x (record_there (logs_of trace) x races.r races.race.left) other y byte later in_y races
+    pub no_race_here : (after : Reading) → GivesNext c s.left None after → FindsRace trace lines at None
+    no_race_here after gives x in_x other y byte later in_y races = scans_all s after gives x in_x (record_there (logs_of trace) x races.r races.race.left) other y byte later in_y races
 
 -- no record before the row of this place races with one of a later row
 abbrev pub NoneBefore : Trace → ℕ × ℕ → ℕ → Type 0

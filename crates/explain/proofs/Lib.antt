@@ -9,5 +9,6 @@ pub mod OnLines
 pub mod Own
 pub mod Pairs
 pub mod Probing
+pub mod Runs
 pub mod Scanning
 pub mod Witnesses

@@ -25,7 +25,7 @@ use Rattle.race_laws.proofs.FolderForkJoin.{paths_same}
 use Rattle.race_laws.proofs.FolderRules.{parted}
 use Rattle.race_laws.proofs.ListedOnce.{logs_at}
 use Rattle.counted_order.proofs.Paths.{length_front}
-use Rattle.explain.specs.Finding.{AreNested, IsFound, HasNone, Finds}
+use Rattle.explain.specs.Finding.{AreNested, IsFound, HasNone, FindsMarked}
 use Rattle.explain.specs.Witness.{IsInLog, TellsRecord, FindsNamed, HoldsGoodRun}
 use Rattle.explain.specs.declared.finding.Found.{Found}
 use Rattle.explain.specs.declared.finding.Mark.{Mark}
@@ -127,7 +127,7 @@ module _ (content : Content) (dir : List ℕ) (trace : Trace) (place : ℕ) (row
       none (take x.index log.task.records) (drop (suc x.index) log.task.records) some.0 (parted log.task.records x.index some.0 some.1)
       (length_front log.task.records x.index some.0 some.1 ∙ (let i : x.index ≡ earlier = omega arith in i))
 
-  pub names : (number earlier : ℕ) (answer : Option Found) → number ≡ earlier + 1 → Finds (mark.Record earlier) log.task.records answer → FindsNamed trace place number answer
+  pub names : (number earlier : ℕ) (answer : Option Found) → number ≡ earlier + 1 → FindsMarked (mark.Record earlier) log.task.records answer → FindsNamed trace place number answer
   names number earlier None e none = names_none number earlier e none
   names number earlier (Some found) e f = (
     record { path = log.task.path; index = length f.before },

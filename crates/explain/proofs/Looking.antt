@@ -5,7 +5,7 @@ use Rattle.sw_base.specs.Environment.{Content}
 use Rattle.log_format.specs.declared.record.Record.{Record}
 use Rattle.log_reader.specs.Reading.{Reading, StandsBefore, GivesNext}
 use Rattle.race_laws.proofs.LabelPlace.{HasLast, has_last}
-use Rattle.explain.specs.Finding.{IsPlaceAfter, MayFollow, AreNested, IsMarked, HasNone, Finds}
+use Rattle.explain.specs.Finding.{IsPlaceAfter, MayFollow, AreNested, IsMarked, HasNone, FindsMarked}
 use Rattle.explain.specs.declared.finding.Found.{Found}
 use Rattle.explain.specs.declared.finding.Mark.{Mark}
 use Rattle.explain.specs.declared.passing.Place.{Place}
@@ -35,7 +35,7 @@ module _ (c : Content) (which : Mark) (reading : Reading) (place : Place) (event
 
   -- it is the one
   pub found_here : (found : Found) (after : Reading) → GivesNext c p.left (Some found.event) after → IsMarked which p.given found.event → found.held ≡ place.held → found.barriers ≡ place.barriers
-      → Finds which events (Some found)
+      → FindsMarked which events (Some found)
   found_here found after gives marked held barriers =
       let next = is_next found.event after gives in
       record { before = p.given; after = next.rest; parts = next.parts; marked = marked; held = held ∙ p.after.held; barriers = barriers ∙ p.after.barriers }
@@ -67,7 +67,7 @@ module _ (c : Content) (which : Mark) (reading : Reading) (place : Place) (event
       }
 
   -- there is none
-  pub found_none : (after : Reading) → GivesNext c p.left None after → Finds which events None
+  pub found_none : (after : Reading) → GivesNext c p.left None after → FindsMarked which events None
   found_none after gives = subst (λ (l : List Record). HasNone which l) (all p.left gives p.parts) p.none
     where
       all : (left : List Record) → GivesNext c left None after → events ≡ p.given ++ left → p.given ≡ events

@@ -31,9 +31,9 @@ pub record Scans (c : Content) (trace : Trace) (at : ℕ) (reading : Reading) (p
   pub each : (y : Node) → IsInLog trace at y → y.index < length given → N y
 
 -- before the first one
-pub scans_none : (c : Content) (dir : List ℕ) (trace : Trace) (at : ℕ) (row : Row) (log : LogOf c dir trace at row) (reading : Reading) (place : Place) (N : Node → Type 0)
+pub scans_none : {c : Content} {dir : List ℕ} {trace : Trace} {at : ℕ} {row : Row} {reading : Reading} {place : Place} (log : LogOf c dir trace at row) (N : Node → Type 0)
     → StandsBefore c reading log.task.records → IsPlaceAfter place [] → Scans c trace at reading place N
-scans_none c dir trace at row log reading place N stands after = record {
+scans_none log N stands after = record {
   task = log.task;
   listed = log.listed;
   log_is = log.logs_are;
@@ -46,7 +46,7 @@ scans_none c dir trace at row log reading place N stands after = record {
   each = λ y in_log within. absurd (omega (arith, within));
 }
 
-module _ (c : Content) (trace : Trace) (at : ℕ) (reading : Reading) (place : Place) (N : Node → Type 0) (s : Scans c trace at reading place N) where
+module _ {c : Content} {trace : Trace} {at : ℕ} {reading : Reading} {place : Place} {N : Node → Type 0} (s : Scans c trace at reading place N) where
   -- the next record
   abbrev pub next_node : Node
   next_node = record { path = s.task.path; index = length s.given }

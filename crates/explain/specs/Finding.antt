@@ -61,6 +61,6 @@ abbrev pub HasNone : Mark → List Record → Type 0
 HasNone which events = (before after : List Record) (r : Record) → events ≡ before ++ r ∷ after → IsMarked which before r → ⊥
 
 -- the record that is looked for was found, or there is none
-abbrev pub Finds : Mark → List Record → Option Found → Type 0
-Finds which events None = HasNone which events
-Finds which events (Some found) = IsFound which events found
+abbrev pub FindsMarked : Mark → List Record → Option Found → Type 0
+FindsMarked which events None = HasNone which events
+FindsMarked which events (Some found) = IsFound which events found

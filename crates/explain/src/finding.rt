@@ -5,7 +5,7 @@ ghost use Rattle.log_format.specs.declared.format.TheConstants.{FORMAT};
 ghost use Rattle.log_format.specs.declared.record.Record.{Record as LogRecord};
 ghost use Rattle.log_reader.specs.Reading.{StandsBefore, GivesNext};
 ghost use Rattle.race_model.specs.LogFault.{IsWholeLog};
-ghost use Rattle.explain.specs.Finding.{AreNested, Finds, IsMarked, IsNoPlace, IsPlaceAfter};
+ghost use Rattle.explain.specs.Finding.{AreNested, FindsMarked, IsMarked, IsNoPlace, IsPlaceAfter};
 
 use crate::passing::Place;
 use log_format::{FORMAT, Kind, Record};
@@ -83,7 +83,7 @@ fn find_ahead<F: Folder>(
     which: Mark,
 ) -> Result<Option<Found>, WalkFault>
     requires { reader.old.left < 2 ^ 32 }
-    ensures finds { WhereTold (F.state folder.old).content (λ c. (events : List LogRecord) → StandsBefore c reader.old events → AreNested events → IfOk result (Finds which events)) }
+    ensures finds { WhereTold (F.state folder.old).content (λ c. (events : List LogRecord) → StandsBefore c reader.old events → AreNested events → IfOk result (FindsMarked which events)) }
     ensures same { F.state folder.new ≡ F.state folder.old }
     ensures later { F.read_faults folder.old ≤ F.read_faults folder.new }
     ensures only_faults { IfErr result (λ e. IsNoPlace e) }
@@ -132,7 +132,7 @@ pub fn find_in_log<F: Folder>(
     which: Mark,
 ) -> Result<Option<Found>, WalkFault>
     ensures finds { WhereTold (F.state folder.old).content (λ c. (events : List LogRecord) → IsWholeLog FORMAT c.held dir.now row.now.path events
-        → row.now.records ≡ length events → AreNested events → IfOk result (Finds which events)) }
+        → row.now.records ≡ length events → AreNested events → IfOk result (FindsMarked which events)) }
     ensures same { F.state folder.new ≡ F.state folder.old }
     ensures later { F.read_faults folder.old ≤ F.read_faults folder.new }
     ensures only_faults { IfErr result (λ e. IsNoPlace e) }

@@ -89,7 +89,7 @@ impl Place {
     /// Before the first record.
     pub fn start() -> Place
         ensures after { IsPlaceAfter result [] }
-        ensures room { CanCount result (2 ^ 32 - 1) }
+        ensures room { (left : ℕ) → left < 2 ^ 32 → CanCount result left }
     {
         Place {
             held: Held::none(),

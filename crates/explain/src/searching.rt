@@ -84,45 +84,9 @@ fn raced<F: Folder>(
     race_of(alloc, folder, dir, rows, first, second, one, other)
 }
 
-/// The first record of the second log that races with a record of the first one in these lines. It is in one of the stretches.
+/// The first record of the second log that races with a record of the first one in these lines. It is in one of the stretches, so the log is read only
+/// where one of them is of it.
 fn hit_in_log<F: Folder>(
-    alloc: Global,
-    folder: &mut F,
-    dir: &str,
-    rows: &[Row],
-    first: usize,
-    second: usize,
-    one: &Found,
-    met: &[Stretch],
-    lines: (u32, u32),
-) -> Result<Option<Hit>, WalkFault>
-    requires first { first < length rows.now }
-    requires second { second < length rows.now }
-    ensures finds { WhereTold (F.state folder.old).content (λ c. (trace : Trace) → HoldsGoodRun c dir.now rows.now trace → (x : Node) → IsInLog trace first x
-        → HoldPartners trace lines x met.now → TellsRecord (logs_of trace) x one.now → IfOk result (FindsHit trace lines x second)) }
-    ensures same { F.state folder.new ≡ F.state folder.old }
-    ensures later { F.read_faults folder.old ≤ F.read_faults folder.new }
-    ensures only_faults { IfErr result (λ e. IsNoPlace e) }
-    ensures cause { IsErrOf result WalkFault.ReadFault → Rose (F.read_faults folder.old) (F.read_faults folder.new) }
-{
-    let mut reader = open_log(alloc, folder, dir, &rows[second])?;
-    let mut place = Place::start();
-    'records: while let Some(next) = next_record(alloc, folder, &mut reader)? {
-        let other = found_at(&place, next);
-        let number = place.records + 1;
-        let raced = raced(
-            alloc, folder, dir, rows, first, second, one, &other, number, met, lines,
-        )?;
-        if let Some(byte) = raced {
-            return Ok(Some(Hit { number, byte }));
-        }
-        place.pass(&other.event);
-    }
-    Ok(None)
-}
-
-/// The same; the log is read only where one of the stretches is of it.
-fn hit_in_row<F: Folder>(
     alloc: Global,
     folder: &mut F,
     dir: &str,
@@ -146,7 +110,20 @@ fn hit_in_row<F: Folder>(
     if !has_path(met, &row.path) {
         return Ok(None);
     }
-    hit_in_log(alloc, folder, dir, rows, first, second, one, met, lines)
+    let mut reader = open_log(alloc, folder, dir, row)?;
+    let mut place = Place::start();
+    'records: while let Some(next) = next_record(alloc, folder, &mut reader)? {
+        let other = found_at(&place, next);
+        let number = place.records + 1;
+        let raced = raced(
+            alloc, folder, dir, rows, first, second, one, &other, number, met, lines,
+        )?;
+        if let Some(byte) = raced {
+            return Ok(Some(Hit { number, byte }));
+        }
+        place.pass(&other.event);
+    }
+    Ok(None)
 }
 
 /// The first record of the later rows that races with a record of this row in these lines. It is in one of the stretches.
@@ -170,7 +147,7 @@ fn partner_of<F: Folder>(
     ensures cause { IsErrOf result WalkFault.ReadFault → Rose (F.read_faults folder.old) (F.read_faults folder.new) }
 {
     'rows: for second in first + 1..rows.len() {
-        let hit = hit_in_row(alloc, folder, dir, rows, first, second, one, met, lines)?;
+        let hit = hit_in_log(alloc, folder, dir, rows, first, second, one, met, lines)?;
         if let Some(hit) = hit {
             let row = second as u32 + 1;
             return Ok(Some(Partner { row, hit }));
@@ -226,43 +203,9 @@ fn race_pair(first: usize, number: u32, partner: Partner) -> RacePair
     }
 }
 
-/// The first record of the log that races in these lines with one of a later row, and the first such one.
+/// The first record of the log that races in these lines with one of a later row, and the first such one. The log is read only where the
+/// intervals say that there may be one.
 fn race_in_log<F: Folder>(
-    alloc: Global,
-    folder: &mut F,
-    dir: &str,
-    rows: &[Row],
-    suspects: &[Suspect<'_>],
-    first: usize,
-    lines: (u32, u32),
-) -> Result<Option<RacePair>, WalkFault>
-    requires first { first < length rows.now }
-    requires few { length rows.now < 2 ^ 32 }
-    ensures finds { WhereTold (F.state folder.old).content (λ c. (trace : Trace) → HoldsGoodRun c dir.now rows.now trace → HoldAccesses trace lines suspects.now
-        → IfOk result (FindsRace trace lines first)) }
-    ensures same { F.state folder.new ≡ F.state folder.old }
-    ensures later { F.read_faults folder.old ≤ F.read_faults folder.new }
-    ensures only_faults { IfErr result (λ e. IsNoPlace e) }
-    ensures cause { IsErrOf result WalkFault.ReadFault → Rose (F.read_faults folder.old) (F.read_faults folder.new) }
-{
-    let mut reader = open_log(alloc, folder, dir, &rows[first])?;
-    let mut place = Place::start();
-    'records: while let Some(next) = next_record(alloc, folder, &mut reader)? {
-        let one = found_at(&place, next);
-        let number = place.records + 1;
-        let partner = partner_at(
-            alloc, folder, dir, rows, suspects, first, number, &one, lines,
-        )?;
-        if let Some(partner) = partner {
-            return Ok(Some(race_pair(first, number, partner)));
-        }
-        place.pass(&one.event);
-    }
-    Ok(None)
-}
-
-/// The same; the log is read only where the intervals say that there may be one.
-fn race_in_row<F: Folder>(
     alloc: Global,
     folder: &mut F,
     dir: &str,
@@ -285,7 +228,20 @@ fn race_in_row<F: Folder>(
     if !suspected {
         return Ok(None);
     }
-    race_in_log(alloc, folder, dir, rows, suspects, first, lines)
+    let mut reader = open_log(alloc, folder, dir, row)?;
+    let mut place = Place::start();
+    'records: while let Some(next) = next_record(alloc, folder, &mut reader)? {
+        let one = found_at(&place, next);
+        let number = place.records + 1;
+        let partner = partner_at(
+            alloc, folder, dir, rows, suspects, first, number, &one, lines,
+        )?;
+        if let Some(partner) = partner {
+            return Ok(Some(race_pair(first, number, partner)));
+        }
+        place.pass(&one.event);
+    }
+    Ok(None)
 }
 
 /// The least race of these lines, by row and number, first record first.
@@ -306,7 +262,7 @@ pub fn least_race<F: Folder>(
     ensures cause { IsErrOf result WalkFault.ReadFault → Rose (F.read_faults folder.old) (F.read_faults folder.new) }
 {
     'rows: for first in 0..rows.len() {
-        let found = race_in_row(alloc, folder, dir, rows, suspects, first, lines)?;
+        let found = race_in_log(alloc, folder, dir, rows, suspects, first, lines)?;
         if found.is_some() {
             return Ok(found);
         }

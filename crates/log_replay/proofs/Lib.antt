@@ -1,4 +1,3 @@
-pub mod Elements
 pub mod Following
 pub mod Stepping
 pub mod Values

@@ -1,6 +1,8 @@
 -- From one record of a log to the next.
-use Rattle.std.proofs.Common.{◌≡◌, inl, inr, refl, ap, sym, ◌∙◌, subst, ℕ, suc, ◌+◌, ◌-◌, min, List, [], ◌∷◌, ◌++◌, length, length-append, append_assoc, append-nil, ℤ, Option, Some, None, Err, arith}
+use Rattle.std.proofs.Common.{◌≡◌, inl, inr, refl, ap, sym, ◌∙◌, subst, ℕ, suc, ◌+◌, ◌-◌, min, List, [], ◌∷◌, ◌++◌, length, length-append, append_assoc, append-nil, ℤ, Option, Some, None, Result, Err, arith}
 use Rattle.std.specs.List.{cons_option}
+use Rattle.std.specs.Prelude.{IsErrAnd}
+use Rattle.std.proofs.lemmas.Result.{err_from_is_err_and}
 use Rattle.sw_base.specs.Environment.{Content, FolderState}
 use Rattle.log_format.specs.declared.record.Record.{Record}
 use Rattle.log_format.specs.declared.record.Kind.{Kind}
@@ -13,7 +15,7 @@ use Rattle.kernel_model.specs.Trace.{draw, log_limit}
 use Rattle.kernel_model.specs.Value.{Element, access, read}
 use Rattle.kernel_model.proofs.Equations.{put-room, read-room, read-wants, draw-room, draw-wants}
 use Rattle.log_replay.specs.Differing.{DiffersAt}
-use Rattle.log_replay.specs.Following.{Standing, HasEnd, IsAt, here, Took, Takes, IsMark, Strays, IsOff, Reached, Ends}
+use Rattle.log_replay.specs.Following.{Standing, HasEnd, IsAt, here, Took, Takes, IsMark, Strays, IsOff, Reached, Ends, Follows}
 use Rattle.log_replay.specs.declared.stray.Stray.{Stray}
 use Rattle.log_replay.specs.declared.stray.Stray.TheVariants as stray
 
@@ -244,7 +246,13 @@ none_is_left content [] reading gives ahead = ahead
 none_is_left content (r ∷ rest) reading gives ahead = cc gives.0
 
 -- no record was read, where one is there
-pub unread : {A : Type 0} (told : FolderState) (log rest : List Record) (outcome : Outcome A) (old new : Standing) (e : Stray) → Takes told rest old new (Err e) → Ends told log outcome new (Err e)
+unread : {A : Type 0} (told : FolderState) (log rest : List Record) (outcome : Outcome A) (old new : Standing) (e : Stray) → Takes told rest old new (Err e) → Ends told log outcome new (Err e)
 unread told log rest outcome old new (stray.Differs number) takes = absurd takes
 unread told log rest outcome old new stray.ReadFault takes = tt
 unread told log rest outcome old new stray.Memory takes = tt
+
+pub follows_unread : {A : Type 0} (told : FolderState) (part : State → Outcome A) (old new : Standing) (e : Stray) (r : Result A Stray) → IsErrAnd r (λ y. y ≡ e)
+    → ((log done rest : List Record) → IsAt told log done rest old → Takes told rest old new (Err e)) → Follows told part old new r
+follows_unread told part old new e r is takes =
+    let p = err_from_is_err_and r is in
+    rw (p.1, p.2) (λ log done rest at. unread told log rest (part (here old done rest)) old new e (takes log done rest at))

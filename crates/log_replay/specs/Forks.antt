@@ -12,4 +12,4 @@ fork_of f = record { team = team_of f.team.now; slots = f.slots.items }
 
 -- where the task stands
 abbrev pub standing : Lane → Standing
-standing l = record { slots = l.slots.items; forks = map fork_of l.forks.items; reading = l.reader; count = l.count }
+standing l = record { slots = l.locals.slots.items; forks = map fork_of l.forks.items; reading = l.reader; count = l.count }

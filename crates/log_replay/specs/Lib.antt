@@ -1,6 +1,5 @@
 pub mod Following
 pub mod Trouble
-pub mod Placing
 pub mod Forks
 pub mod Differing
 pub mod Sharing

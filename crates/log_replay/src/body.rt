@@ -16,14 +16,14 @@ ghost use Rattle.log_replay.specs.Sharing.{sharing};
 ghost use Rattle.sw_base.specs.Environment.{Rose};
 
 use crate::forked::Forked;
-use crate::lane::{Lane, access, event};
-use crate::place::Place;
+use crate::lane::{Lane, event};
 use crate::stray::Stray;
 use kernel_model::Change;
 use kernel_syntax::{Body, Expr, Schedule, Stmt, Team, even_share, fit};
 use log_format::Kind;
 use std::alloc::Global;
 use sw_base::Folder;
+use task_place::{Place, access};
 
 /// How many turns a loop has.
 fn total_of(from: i64, to: i64) -> u64
@@ -131,7 +131,7 @@ impl<'k> Lane<'k> {
     {
         let due = event(Kind::Region, team.line, 0, u64::from(team.span));
         self.put(alloc, folder, due)?;
-        let slots = self.slots.as_slice().to_vec(alloc)?;
+        let slots = self.locals.slots.as_slice().to_vec(alloc)?;
         self.forks.push(Forked { team, slots })?;
         Ok(())
     }

@@ -9,19 +9,19 @@ ghost use Rattle.kernel_model.specs.Trace.{log_limit};
 ghost use Rattle.race_model.specs.LogFault.{IsWholeLog};
 ghost use Rattle.log_replay.specs.Following.{HasEnd, IsAt};
 ghost use Rattle.log_replay.specs.Forks.{fork_of, standing};
-ghost use Rattle.log_replay.specs.Placing.{IsPlace};
+ghost use Rattle.task_place.specs.Placing.{HasLane};
 ghost use Rattle.log_replay.specs.Task.{Compares, EndsLog, IsFollowed, StraysSo};
 ghost use Rattle.sw_base.specs.Environment.{HasCause, Rose, WhereTold};
 
 use crate::forked::Forked;
 use crate::lane::{Lane, event, is_same};
-use crate::place::Place;
 use crate::stray::Stray;
 use kernel_syntax::{Array, Team};
 use log_format::{FORMAT, Kind};
 use log_reader::LogReader;
 use std::alloc::Global;
 use sw_base::{Folder, Path, Trouble};
+use task_place::{Locals, Place};
 
 impl<'k> Lane<'k> {
     // A task with these locals, before the first record of its log.
@@ -35,7 +35,7 @@ impl<'k> Lane<'k> {
     ) -> Result<Lane<'k>, Trouble>
         ensures begun { IfOk result (λ lane. WhereTold (F.state folder.old).content (λ c. (log : List Record) → IsWholeLog FORMAT c.held dir.now path.now log → records ≡ length log
             → HasEnd log → length log ≤ log_limit → IsAt (F.state folder.old) log [] log (standing lane))) }
-        ensures slots { IfOk result (λ lane. lane.slots.items ≡ slots.items) }
+        ensures slots { IfOk result (λ lane. lane.locals.slots.items ≡ slots.items) }
         ensures forks { IfOk result (λ lane. lane.forks.items ≡ []) }
         ensures same { F.state folder.new ≡ F.state folder.old }
         ensures cause { HasCause (F.read_faults folder.old) (F.read_faults folder.new) result }
@@ -43,7 +43,7 @@ impl<'k> Lane<'k> {
         let mut reader = LogReader::new(alloc)?;
         reader.open(alloc, FORMAT, folder, dir, path, records)?;
         Ok(Lane {
-            slots,
+            locals: Locals { slots },
             forks: Vec::new(alloc),
             reader,
             count: 0,
@@ -79,7 +79,7 @@ impl<'k> Lane<'k> {
         requires bounded { IsBoundedCode (code_of team.now.body.stmts.items) }
         ensures compares { (log : List Record) → IsAt (F.state folder.old) log [] log (standing self.old) → self.old.forks.items ≡ [] → (program : Program) → program.arrays ≡ place.now.arrays
             → team.now.span ≡ place.now.span
-            → Compares program (record { team = team_of team.now; lane = place.now.lane; slots = self.old.slots.items }) log (standing self.new) result }
+            → Compares program (record { team = team_of team.now; lane = place.now.lane; slots = self.old.locals.slots.items }) log (standing self.new) result }
         ensures same { F.state folder.new ≡ F.state folder.old }
         ensures later { F.read_faults folder.old ≤ F.read_faults folder.new }
         ensures cause { IsErrOf result Stray.ReadFault → Rose (F.read_faults folder.old) (F.read_faults folder.new) }
@@ -104,7 +104,7 @@ pub fn follow<'k, F: Folder>(
     slots: Vec<i64>,
 ) -> Result<Vec<Forked<'k>>, Stray>
     requires bounded { IsBoundedCode (code_of team.now.body.stmts.items) }
-    requires place { IsPlace (record { arrays = arrays.now; lane = lane; span = team.now.span }) }
+    requires place { HasLane (record { arrays = arrays.now; lane = lane; span = team.now.span }) }
     ensures followed { IfOk result (λ forks. WhereTold (F.state folder.old).content (λ c. (log : List Record) → IsWholeLog FORMAT c.held dir.now path.now log → records ≡ length log
         → HasEnd log → length log ≤ log_limit → (program : Program) → program.arrays ≡ arrays.now
         → IsFollowed program (record { team = team_of team.now; lane = lane; slots = slots.items }) log (map fork_of forks.items))) }

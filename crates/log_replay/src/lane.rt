@@ -1,5 +1,5 @@
 //! A task that follows its log: its locals, the regions that it forked, and the log, read record by record.
-ghost use Rattle.std.specs.Prelude.{◌≡◌, ◌↔◌, ◌+◌, ◌≤◌, ◌<◌, min, List, IfOk, IsErrOf, IsTrue, pos, slice_index_or, slice_set};
+ghost use Rattle.std.specs.Prelude.{◌≡◌, ◌↔◌, ◌+◌, ◌≤◌, ◌<◌, min, List, IfOk, IsErrOf, IsTrue, slice_set};
 ghost use Rattle.log_format.specs.declared.record.Kind.{Kind};
 ghost use Rattle.log_format.specs.declared.record.Record.{Record};
 ghost use Rattle.log_format.specs.declared.record.Kind.TheVariants as kind;
@@ -9,23 +9,23 @@ ghost use Rattle.kernel_model.specs.Value.{access, read};
 ghost use Rattle.log_format.specs.Fitting.{IsWidth};
 ghost use Rattle.log_replay.specs.Following.{Follows, IsAt, IsMark, Takes};
 ghost use Rattle.log_replay.specs.Forks.{standing};
-ghost use Rattle.log_replay.specs.Placing.{meant};
+ghost use Rattle.task_place.specs.Placing.{meant};
 ghost use Rattle.log_replay.specs.declared.stray.Stray.TheVariants as stray;
 ghost use Rattle.sw_base.specs.Environment.{Rose};
 
 use crate::forked::Forked;
-use crate::place::Element;
 use crate::stray::Stray;
 use kernel_syntax::fit;
 use log_format::{Kind, Record};
 use log_reader::LogReader;
 use std::alloc::Global;
 use sw_base::Folder;
+use task_place::{Element, Locals, access};
 
 /// A task that follows its log.
 #[derive(Drop)]
 pub struct Lane<'k> {
-    pub slots: Vec<i64>,
+    pub locals: Locals,
     pub forks: Vec<Forked<'k>>,
     pub reader: LogReader,
     /// How many records were read.
@@ -49,20 +49,6 @@ pub(crate) fn is_same(a: &Record, b: &Record) -> bool
         && a.value == b.value
 }
 
-/// The record of an access.
-pub(crate) fn access(kind: Kind, element: &Element, line: u32, site: u16, value: i64) -> Record
-    ensures { result ≡ access kind (meant element.now) site line value }
-{
-    Record {
-        kind,
-        size: element.width,
-        site,
-        line,
-        addr: element.addr,
-        value: value.cast_unsigned(),
-    }
-}
-
 /// The record of a step that is no access.
 pub(crate) fn event(kind: Kind, line: u32, addr: u64, value: u64) -> Record
     ensures { result ≡ event kind line addr value }
@@ -78,27 +64,12 @@ pub(crate) fn event(kind: Kind, line: u32, addr: u64, value: u64) -> Record
 }
 
 impl<'k> Lane<'k> {
-    /// A local variable.
-    pub fn get(&self, slot: u32) -> i64
-        ensures { result ≡ slice_index_or self.now.slots.items slot (pos 0) }
-    {
-        let slot = slot as usize;
-        if slot < self.slots.len() {
-            self.slots[slot]
-        } else {
-            0
-        }
-    }
-
     /// Sets a local variable.
     pub fn set(&mut self, slot: u32, value: i64)
-        ensures set { standing self.new ≡ record (standing self.old) { slots = slice_set self.old.slots.items slot value } }
+        ensures set { standing self.new ≡ record (standing self.old) { slots = slice_set self.old.locals.slots.items slot value } }
         ensures reader { self.new.reader ≡ self.old.reader }
     {
-        let slot = slot as usize;
-        if slot < self.slots.len() {
-            self.slots[slot] = value;
-        }
+        self.locals.set(slot, value);
     }
 
     /// The task leaves its log here: the next record isn't the trace's.

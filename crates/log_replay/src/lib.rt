@@ -11,7 +11,6 @@ mod comparing;
 mod forked;
 mod lane;
 mod laws;
-mod place;
 mod replaying;
 mod stray;
 mod value;

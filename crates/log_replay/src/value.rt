@@ -9,12 +9,12 @@ ghost use Rattle.log_replay.specs.Forks.{standing};
 ghost use Rattle.sw_base.specs.Environment.{Rose};
 
 use crate::lane::Lane;
-use crate::place::Place;
 use crate::stray::Stray;
 use kernel_model::negate;
 use kernel_syntax::{Expr, Op, apply};
 use std::alloc::Global;
 use sw_base::Folder;
+use task_place::Place;
 
 impl<'k> Lane<'k> {
     /// Reads an element, after its index.
@@ -63,7 +63,7 @@ impl<'k> Lane<'k> {
     {
         match expr {
             Expr::Number(number) => Ok(*number),
-            Expr::Slot(slot) => Ok(self.get(*slot)),
+            Expr::Slot(slot) => Ok(self.locals.get(*slot)),
             Expr::Tid => Ok(i64::from(place.lane())),
             Expr::Span => Ok(i64::from(place.span())),
             Expr::Load {

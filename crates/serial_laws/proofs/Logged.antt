@@ -25,7 +25,7 @@ use Rattle.serial_team.specs.Running.{put_all, beside, past_region, LaneRuns, Te
 use Rattle.serial_laws.specs.SerialRuns.{spelled}
 use Rattle.serial_laws.proofs.Puts.{plain_finds, put_records_are, put_regions}
 use Rattle.serial_laws.proofs.Traced.{phases_ended, team_length}
-use Rattle.serial_laws.proofs.WholeTasks.{regions_of_both}
+use Rattle.history_laws.proofs.TaskTree.{regions_later}
 
 -- the task of this path went on from here to there: its log gained these records, and the logs below it those of these regions
 pub record Logged (d : ℕ) (path : List Step) (x y : MemberValue) (records : List Record) (regions : List RegionWork) : Type 0 where
@@ -52,7 +52,7 @@ module _ (d : ℕ) (path : List Step) where
         ∙ ap₂ (λ (l : List WholeLog) (n : ℕ). l ++ map spelled (region_tasks (tasks_from d) path n hs)) one.below one.forked
         ∙ append_assoc x.below (map spelled first) (map spelled (region_tasks (tasks_from d) path (x.forked + length gs) hs))
         ∙ ap (λ (l : List WholeLog). x.below ++ l)
-        (sym (map-append spelled first (region_tasks (tasks_from d) path (x.forked + length gs) hs)) ∙ ap (λ (ts : Trace). map spelled ts) (sym (regions_of_both (tasks_from d) path x.forked gs hs)));
+        (sym (map-append spelled first (region_tasks (tasks_from d) path (x.forked + length gs) hs)) ∙ ap (λ (ts : Trace). map spelled ts) (sym (regions_later (tasks_from d) path x.forked gs hs)));
   }
 
   -- no region is forked

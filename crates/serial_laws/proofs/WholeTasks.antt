@@ -1,5 +1,5 @@
 -- Where each record has a line, the logs of a tree of work have all its records.
-use Rattle.std.proofs.Common.{◌≡◌, refl, ap, ap₂, sym, ◌∙◌, ℕ, zero, suc, ◌+◌, ◌<◌, ◌≤◌, Bool, false, cond, List, [], ◌∷◌, ◌++◌, length, map, append_assoc, arith, All}
+use Rattle.std.proofs.Common.{◌≡◌, refl, ap, ap₂, sym, ◌∙◌, ℕ, zero, suc, ◌+◌, ◌<◌, ◌≤◌, Bool, false, cond, List, [], ◌∷◌, ◌++◌, length, map, arith, All}
 use Rattle.std.specs.Prelude.{not, ◌==◌}
 use Rattle.std.specs.List.{flat_map}
 use Rattle.std.proofs.lemmas.Bool.Decides.{nat_tests}
@@ -14,6 +14,7 @@ use Rattle.race_model.specs.Listing.{lane_of}
 use Rattle.race_model.specs.Trace.{TaskLog, Trace}
 use Rattle.history_model.specs.Tasks.{lane_tasks, region_tasks, tasks_from}
 use Rattle.history_model.specs.Work.{Work, Phases, RegionWork, work_records, work_regions, lane_works}
+use Rattle.history_laws.proofs.TaskTree.{regions_later}
 use Rattle.execution_model.specs.Runs.{put_records, as_logged}
 
 pub put_lines : (rs : List Record) → All (IsTabled FORMAT) rs → put_records rs ≡ rs
@@ -50,16 +51,8 @@ region_put region regions each rest depth path g =
     ∙ ap₂ (λ (ts us : Trace). ts ++ us) (lanes_put region.phases region.span depth path g each 0 region.span (omega arith)) (rest depth path (g + 1))
 
 -- regions of one phase, and then of the next
-pub regions_of_both : (below : List Step → List Work → Trace) (path : List Step) (g : ℕ) (one more : List RegionWork)
-    → region_tasks below path g (one ++ more) ≡ region_tasks below path g one ++ region_tasks below path (g + length one) more
-regions_of_both below path g [] more = ap (λ (n : ℕ). region_tasks below path n more) (let e : g ≡ g + 0 = omega arith in e)
-regions_of_both below path g (region ∷ one) more =
-    ap (λ (ts : Trace). lane_tasks below path g region.span region.phases 0 region.span ++ ts)
-    (regions_of_both below path (g + 1) one more ∙ ap (λ (n : ℕ). region_tasks below path (g + 1) one ++ region_tasks below path n more) (let e : g + 1 + length one ≡ g + suc (length one) = omega arith in e))
-    ∙ sym (append_assoc (lane_tasks below path g region.span region.phases 0 region.span) (region_tasks below path (g + 1) one) (region_tasks below path (g + suc (length one)) more))
-
 pub regions_put_both : (one more : List RegionWork) → RegionsPut one → RegionsPut more → RegionsPut (one ++ more)
 regions_put_both one more first second depth path g =
-    let is = regions_of_both (tasks_from depth) path g one more in
+    let is = regions_later (tasks_from depth) path g one more in
     ap (λ (ts : Trace). map as_logged ts) is ∙ map-append as_logged (region_tasks (tasks_from depth) path g one) (region_tasks (tasks_from depth) path (g + length one) more)
     ∙ ap₂ (λ (ts us : Trace). ts ++ us) (first depth path g) (second depth path (g + length one)) ∙ sym is

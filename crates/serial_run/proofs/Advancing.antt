@@ -15,7 +15,7 @@ use Rattle.serial_run.specs.declared.frame.Pause.{Pause}
 use Rattle.serial_run.specs.declared.frame.Pause.TheVariants as pause
 use Rattle.serial_run.specs.declared.halt.Halt.{Halt}
 use Rattle.serial_run.specs.declared.halt.Halt.TheVariants as halt
-use Rattle.serial_run.specs.Going.{room_of, ArePlain, Made, Logs, HasRoom}
+use Rattle.serial_run.specs.Going.{room_of, ArePlain, Made, Logs, MayMake}
 use Rattle.serial_run.specs.Resting.{part_of, rest_of}
 use Rattle.serial_run.specs.Stepping.{Stand, Leads, Stepped, Takes, HaltsSo, Advances, Finishes, Pauses, left_of}
 use Rattle.serial_run.proofs.Following.{room_gained, runs_out_so, gains_then, plain_then}
@@ -63,7 +63,7 @@ module _ (layout : ElementLayout) (old : Stand) (others : List Frame) (f : Frame
 
 -- ---- its End
 
-pub finishes : (layout : ElementLayout) (old new : Stand) → old.rest ≡ [] → new.at ≡ old.at → new.end ≡ old.end → new.slots ≡ old.slots → HasRoom old.progress → Logs (event kind.End old.end 0 0) old.progress new.progress → Finishes layout old new
+pub finishes : (layout : ElementLayout) (old new : Stand) → old.rest ≡ [] → new.at ≡ old.at → new.end ≡ old.end → new.slots ≡ old.slots → MayMake old.progress → Logs (event kind.End old.end 0 0) old.progress new.progress → Finishes layout old new
 finishes layout old new none at end slots room logs =
     let due = event kind.End old.end 0 0 in
     record {

@@ -12,7 +12,7 @@ use Rattle.kernel_model.specs.Effect.{Finish, Returned, Halted, Makes, adds}
 use Rattle.kernel_model.proofs.Effects.{makes-same, makes-halt, makes-then}
 use Rattle.serial_run.specs.declared.halt.Halt.{Halt}
 use Rattle.serial_run.specs.declared.halt.Halt.TheVariants as halt
-use Rattle.serial_run.specs.Going.{Progress, room_of, Finds, words_after, ArePlain, Gains, Made, RunsOut, Goes, HasRoom}
+use Rattle.serial_run.specs.Going.{Progress, room_of, Finds, words_after, ArePlain, Gains, Made, RunsOut, Goes, MayMake}
 use Rattle.serial_run.specs.Placing.{Bound, OfLog, OfRun, ElementLayout}
 
 pub finds_then : (layout : ElementLayout) (xs ys : List Record) (a b c : List ℕ) → Finds layout xs a b → Finds layout ys b c → Finds layout (xs ++ ys) a c
@@ -46,7 +46,7 @@ room_after OfRun old new n count left = omega (arith, count, left)
 pub room_gained : (layout : ElementLayout) (old new : Progress) (added : List Record) → Gains layout old new added → room_of layout.bound new ≡ room_of layout.bound old - length added
 room_gained layout old new added g = room_after layout.bound old new (length added) g.count g.left
 
-pub some_room : (bound : Bound) (p : Progress) → HasRoom p → 0 < room_of bound p
+pub some_room : (bound : Bound) (p : Progress) → MayMake p → 0 < room_of bound p
 some_room OfLog p has = let h = has.below in omega arith
 some_room OfRun p has = let h = has.below in let some = has.some in omega arith
 

@@ -1,11 +1,12 @@
 -- A task goes on with a part of what is left: from the effects of the parts.
-use Rattle.std.proofs.Common.{◌≡◌, refl, ap, sym, ◌∙◌, ℕ, ◌+◌, ◌-◌, ◌<◌, List, [], ◌∷◌, ◌++◌, length, ℤ, Err, None, arith, append_assoc}
+use Rattle.std.proofs.Common.{◌≡◌, refl, ap, sym, ◌∙◌, ℕ, ◌+◌, ◌-◌, ◌<◌, List, [], ◌∷◌, ◌++◌, length, ℤ, w64, to_z, of_z, FitsSigned, Err, None, arith, append_assoc}
 use Rattle.std.specs.Prelude.{slice_set}
+use Rattle.std.proofs.lemmas.Int.{to_z-of_z}
 use Rattle.std.proofs.lemmas.List.{append-nil, length-append}
 use Rattle.log_format.specs.declared.record.Record.{Record}
 use Rattle.kernel_syntax.specs.Tree.{Done}
 use Rattle.kernel_model.specs.State.{State, Fork, Outcome, and_then, after, put, assign, reads_of, chunks_of, value_read, number_drawn}
-use Rattle.kernel_model.specs.Effect.{Returned, Halted, state_with, adds}
+use Rattle.kernel_model.specs.Effect.{Returned, state_with, adds}
 use Rattle.kernel_model.specs.Effect as effect
 use Rattle.kernel_model.specs.Trace.{run}
 use Rattle.kernel_model.specs.Value.{Site}
@@ -14,15 +15,35 @@ use Rattle.kernel_model.proofs.Equations.{run-Done}
 use Rattle.serial_run.specs.declared.frame.Frame.{Frame}
 use Rattle.serial_run.specs.declared.halt.Halt.{Halt}
 use Rattle.serial_run.specs.declared.halt.Halt.TheVariants as halt
-use Rattle.serial_run.specs.Going.{Progress, room_of, FindsValue, words_after, Gains, Made, Goes, Logs, HasRoom}
+use Rattle.serial_run.specs.Going.{Progress, room_of, FindsValue, words_after, Gains, Made, Goes, Logs, MayMake}
 use Rattle.serial_run.specs.Resting.{rest_of}
-use Rattle.serial_run.specs.Stepping.{Stand, Leads, Adds, Steps, HaltsSo}
+use Rattle.serial_run.specs.Stepping.{Stand, Leads, Adds, Steps, Stepped, HaltsSo}
 use Rattle.serial_run.proofs.Following.{room_gained, some_room, gains_none, gains_then, plain_then}
 use Rattle.serial_run.proofs.Stepping.{gains_one}
 use Rattle.serial_run.specs.Placing.{ElementLayout}
 
 abbrev pub Part : Type 0
 Part = State → Outcome (Unit {0})
+
+-- what is made of two numbers that were kept in words
+pub both_are : {A : Type 0} (F : ℤ → ℤ → A) (a b : ℤ) → FitsSigned w64 a → FitsSigned w64 b → F (to_z w64 (of_z w64 a)) (to_z w64 (of_z w64 b)) ≡ F a b
+both_are F a b a_fits b_fits = ap (λ (z : ℤ). F z (to_z w64 (of_z w64 b))) (to_z-of_z w64 a a_fits) ∙ ap (λ (z : ℤ). F a z) (to_z-of_z w64 b b_fits)
+
+-- a part that was executed, with nothing left of it
+pub stepped_still : {layout : ElementLayout} {part : Part} {mark : List Record} {forks : List Fork} (x : Stand) {slots : List ℤ} {p : Progress}
+    → Steps layout x.at part x.slots slots x.progress p [] mark forks → Stepped layout part x (record x { slots = slots; progress = p }) mark forks
+stepped_still x steps = record { at = refl; end = refl; pushed = []; rest = sym (append-nil x.rest); steps = steps }
+
+-- one with two frames left, which were pushed one after the other
+pub stepped_two : {layout : ElementLayout} {part : Part} {mark : List Record} {forks : List Fork} (x : Stand) (f g : Frame) {slots : List ℤ} {p : Progress} {mid rest : List Frame} → mid ≡ x.rest ++ f ∷ [] → rest ≡ mid ++ g ∷ []
+    → Steps layout x.at part x.slots slots x.progress p (f ∷ g ∷ []) mark forks → Stepped layout part x (record x { slots = slots; progress = p; rest = rest }) mark forks
+stepped_two x f g one two steps = record {
+  at = refl;
+  end = refl;
+  pushed = f ∷ g ∷ [];
+  rest = two ∙ ap (λ (l : List Frame). l ++ g ∷ []) one ∙ append_assoc x.rest (f ∷ []) (g ∷ []);
+  steps = steps;
+}
 
 pub leads_none : (part : Part) (slots : List ℤ) (room : ℕ) → Leads part slots room part slots room [] []
 leads_none part slots room = λ records before reads chunks.
@@ -122,7 +143,7 @@ module _ (layout : ElementLayout) (at : Site) where
   }
 
   -- a record that is no access
-  module _ (due : Record) (slots : List ℤ) (old new : Progress) (room : HasRoom old) (logs : Logs due old new) (finds : FindsValue layout due.kind due old.words) (same : words_after layout due.kind due old.words ≡ old.words)
+  module _ (due : Record) (slots : List ℤ) (old new : Progress) (room : MayMake old) (logs : Logs due old new) (finds : FindsValue layout due.kind due old.words) (same : words_after layout due.kind due old.words ≡ old.words)
       (none : value_read due.kind due.value ≡ None) (none' : number_drawn due.kind due.addr ≡ None) where
     pub gains : Gains layout old new (due ∷ [])
     gains = gains_one layout due old new new.words finds (logs.words ∙ sym same) logs

@@ -1,3 +1,4 @@
+pub mod Elements
 pub mod Following
 pub mod Stepping
 pub mod Values

@@ -1,5 +1,5 @@
 -- Statements, from what their expressions made.
-use Rattle.std.proofs.Common.{◌≡◌, refl, ap, sym, ◌∙◌, subst, arith, append_assoc, ℕ, zero, suc, ◌<◌, List, [], ◌∷◌, ◌++◌, ℤ, pos, negsuc, Option, Some, None, Result, Ok, Err}
+use Rattle.std.proofs.Common.{◌≡◌, refl, ap, sym, ◌∙◌, subst, append_assoc, ℕ, zero, suc, ◌<◌, List, [], ◌∷◌, ◌++◌, ℤ, pos, negsuc, Option, Some, None, Result, Ok, Err}
 use Rattle.std.specs.Prelude.{slice_set}
 use Rattle.std.proofs.lemmas.List.{append-nil}
 use Rattle.log_format.specs.declared.record.Kind.TheVariants as kind
@@ -12,7 +12,7 @@ use Rattle.kernel_model.specs.declared.change.Change.TheVariants.{Store}
 use Rattle.kernel_model.specs.Drawing.{turn_from}
 use Rattle.kernel_model.specs.Iterations.{total_of}
 use Rattle.kernel_model.specs.State as model
-use Rattle.kernel_model.specs.State.{State, Fork, Outcome, Gives, and_then, after, assign, put, event, reads_of, chunks_of}
+use Rattle.kernel_model.specs.State.{State, Fork, and_then, after, assign, put, event, reads_of, chunks_of}
 use Rattle.kernel_model.specs.Effect.{Returned, Halted, state_with, adds}
 use Rattle.kernel_model.specs.Trace.{log_limit, run, branch, turns, changed, forked}
 use Rattle.kernel_model.specs.Value.{Site, element_at, access, value}
@@ -26,9 +26,10 @@ use Rattle.serial_run.specs.declared.frame.Pause.{Pause}
 use Rattle.serial_run.specs.declared.frame.Pause.TheVariants as pause
 use Rattle.serial_run.specs.declared.halt.Halt.{Halt}
 use Rattle.serial_run.specs.declared.halt.Halt.TheVariants as halt
-use Rattle.serial_run.specs.declared.place.Element.{Element}
-use Rattle.serial_run.specs.Going.{Progress, room_of, Made, Goes, Logs, HasRoom, Marks}
-use Rattle.serial_run.specs.Placing.{ElementLayout, meant}
+use Rattle.task_place.specs.declared.place.Element.{Element}
+use Rattle.serial_run.specs.Going.{Progress, room_of, Made, Goes, Logs, MayMake, Marks}
+use Rattle.serial_run.specs.Placing.{ElementLayout}
+use Rattle.task_place.specs.Placing.{meant}
 use Rattle.serial_run.specs.Resting.{part_of}
 use Rattle.serial_run.specs.Stepping.{Stand, Steps, Stepped, Takes, HaltsSo}
 use Rattle.serial_run.proofs.Following.{no_room, no_room_left, runs_out_so, made_still, made_same, goes_same, goes_stop, goes_then}
@@ -150,7 +151,7 @@ module _ (layout : ElementLayout) (at : Site) (slots : List ℤ) where
           (λ then' s. ap (λ o. after o then') (after-done at (turns (total_of a b) 0 (turn_from at body slot a) s) ∙ sym (frame_is s))))))
 
   -- ---- a region
-  module _ (team : TeamTree) (old new : Progress) (room : HasRoom old) (logs : Logs (event kind.Region team.line 0 team.span) old new) where
+  module _ (team : TeamTree) (old new : Progress) (room : MayMake old) (logs : Logs (event kind.Region team.line 0 team.span) old new) where
     abbrev fork_part : Part
     fork_part = run at (tree.Parallel team.span team.line team.end team.body Done)
 

@@ -12,15 +12,16 @@ use Rattle.log_format.proofs.FittedBits.{fitted_bits}
 use Rattle.log_format.specs.Spelling.{spelling}
 use Rattle.kernel_syntax.proofs.Fitting.{fitted-fitted, fitted_fits}
 use Rattle.kernel_model.specs.State as model
-use Rattle.kernel_model.specs.State.{State, Outcome, put, to_bits, from_bits, value_read, number_drawn}
+use Rattle.kernel_model.specs.State.{State, Outcome, put, to_bits, from_bits}
 use Rattle.kernel_model.specs.Value.{access, read}
 use Rattle.kernel_model.specs.Effect.{Returned, Halted, Makes, adds}
 use Rattle.kernel_model.proofs.Effects.{makes-put, makes-read}
 use Rattle.serial_run.specs.declared.halt.Halt.{Halt}
 use Rattle.serial_run.specs.declared.halt.Halt.TheVariants as halt
-use Rattle.serial_run.specs.declared.place.Element.{Element}
-use Rattle.serial_run.specs.Going.{Progress, room_of, FindsValue, words_after, Gains, Made, Goes, Logs, HasRoom, MakesRoom, Marks}
-use Rattle.serial_run.specs.Placing.{ElementLayout, IsInPlace, StandsAt, meant}
+use Rattle.task_place.specs.declared.place.Element.{Element}
+use Rattle.serial_run.specs.Going.{Progress, room_of, FindsValue, words_after, Gains, Made, Goes, Logs, MayMake, MakesRoom, Marks}
+use Rattle.serial_run.specs.Placing.{ElementLayout, IsInPlace, StandsAt}
+use Rattle.task_place.specs.Placing.{meant}
 use Rattle.serial_run.proofs.Following.{some_room, no_room, no_room_left, made_still}
 
 -- no room
@@ -50,7 +51,7 @@ gains_one layout due old new after finds is logs = record {
   left = (let e : new.left + length (due ∷ []) ≡ new.left + 1 = omega arith in e) ∙ logs.left;
 }
 
-module _ (layout : ElementLayout) (slots : List ℤ) (old new : Progress) (room : HasRoom old) where
+module _ (layout : ElementLayout) (slots : List ℤ) (old new : Progress) (room : MayMake old) where
   some : 0 < room_of layout.bound old
   some = some_room layout.bound old room
 
@@ -105,6 +106,6 @@ marks_unready due p halt.Long m = (m.0, m.1, refl)
 marks_unready due p halt.Refused m = absurd m
 marks_unready due p halt.Memory m = tt
 
-pub marks_spelled : (due : Record) (old new : Progress) (r : Result (Unit {0}) Halt) → HasRoom old → IfOk r (λ _. Logs due old new) → IfErr r (λ e. e ≡ halt.Memory) → Marks due old new r
+pub marks_spelled : (due : Record) (old new : Progress) (r : Result (Unit {0}) Halt) → MayMake old → IfOk r (λ _. Logs due old new) → IfErr r (λ e. e ≡ halt.Memory) → Marks due old new r
 marks_spelled due old new (Ok _) room ok err = (room, ok)
 marks_spelled due old new (Err e) room ok err = subst (λ (x : Halt). Marks due old new (Err x)) (sym err) tt

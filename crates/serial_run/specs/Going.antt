@@ -89,20 +89,20 @@ pub record Logs (due : Record) (old new : Progress) : Type 0 where
   pub left : new.left + 1 ≡ old.left
 
 -- one record more may be made
-pub record HasRoom (p : Progress) : Type 0 where
+pub record MayMake (p : Progress) : Type 0 where
   pub below : p.count < log_limit
   pub some : 0 < p.left
 
 -- or why it may not be, where its line is this one
 abbrev pub MakesRoom : Progress → ℕ → Result (Unit {0}) Halt → Type 0
-MakesRoom p line (Ok _) = HasRoom p
+MakesRoom p line (Ok _) = MayMake p
 MakesRoom p line (Err (halt.LogFull at_line)) = (at_line ≡ line) × (log_limit ≤ p.count)
 MakesRoom p line (Err halt.Long) = (p.left ≡ 0) × (p.count < log_limit)
 MakesRoom p line (Err _) = ⊥
 
 -- the record was put, or why not
 abbrev pub Marks : Record → Progress → Progress → Result (Unit {0}) Halt → Type 0
-Marks due old new (Ok _) = HasRoom old × Logs due old new
+Marks due old new (Ok _) = MayMake old × Logs due old new
 Marks due old new (Err (halt.LogFull line)) = (line ≡ due.line) × (log_limit ≤ old.count) × (new ≡ old)
 Marks due old new (Err halt.Long) = (old.left ≡ 0) × (old.count < log_limit) × (new ≡ old)
 Marks due old new (Err halt.Memory) = Unit {0}

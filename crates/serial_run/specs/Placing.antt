@@ -1,22 +1,10 @@
--- Where a task runs, and where the elements of its kernel's arrays stand.
-use Rattle.std.specs.Prelude.{◌≡◌, ℕ, ◌+◌, ◌*◌, ◌<◌, List, Option, Some, slice_get}
+-- Where the elements of a kernel's arrays stand among the words of a serial run.
+use Rattle.std.specs.Prelude.{◌≡◌, ℕ, ◌+◌, ◌*◌, ◌<◌, List, Some, slice_get}
 use Rattle.kernel_syntax.specs.declared.syntax.Array.{Array}
-use Rattle.kernel_syntax.specs.Layout.{ArePlaced, elements}
+use Rattle.kernel_syntax.specs.Layout.{elements}
 use Rattle.log_format.specs.declared.record.Record.{Record}
-use Rattle.log_format.specs.Fitting.{IsWidth}
 use Rattle.history_model.specs.Sound.{WordLayout, IsOfElement}
-use Rattle.kernel_model.specs.Value as model
-use Rattle.kernel_model.specs.Value.{Site}
-use Rattle.serial_run.specs.declared.place.Element.{Element}
-
--- the arrays are laid out, and the team has the lane
-pub record IsPlace (at : Site) : Type 0 where
-  pub placed : ArePlaced at.arrays (elements at.arrays)
-  pub within : at.lane < at.span
-
--- the element as the meaning of kernels has it
-abbrev pub meant : Element → model.Element
-meant e = record { addr = e.addr; width = e.width }
+use Rattle.task_place.specs.declared.place.Element.{Element}
 
 -- how many records more a task may make in its meaning: those for which its log has room, or no more of them than the whole run may make
 pub data Bound : Type 0 where
@@ -47,9 +35,3 @@ pub record StandsAt (layout : ElementLayout) (e : Element) : Type 0 where
   pub address : layout.words.address e.word ≡ e.addr
   pub width : layout.words.width e.word ≡ e.width
   pub within : e.word < layout.count
-
--- this element was found
-pub record IsElement (arrays : List Array) (found : Option model.Element) (e : Element) : Type 0 where
-  pub is : found ≡ Some (meant e)
-  pub width : IsWidth e.width
-  pub stands : (layout : ElementLayout) → TellsWords arrays layout → StandsAt layout e

@@ -17,9 +17,9 @@ ghost use Rattle.serial_run.specs.declared.frame.Frame.TheVariants as frame;
 
 use crate::frame::{Frame, Pause};
 use crate::halt::Halt;
-use crate::locals::Locals;
+use task_place::Locals;
 use crate::memory::Memory;
-use crate::place::Place;
+use task_place::Place;
 use crate::track::{Track, event};
 use kernel_syntax::{Body, Expr, Schedule, Stmt, Team, even_share};
 use log_format::Kind;

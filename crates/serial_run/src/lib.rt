@@ -20,9 +20,7 @@ mod frame;
 mod halt;
 mod lane;
 mod laws;
-mod locals;
 mod memory;
-mod place;
 mod track;
 mod value;
 
@@ -30,7 +28,6 @@ pub use frame::{Frame, Pause};
 pub use halt::Halt;
 pub use lane::Lane;
 pub use laws::{ended_tasks_have_their_trace, stopped_tasks_stop_as_told};
-pub use locals::Locals;
 pub use memory::Memory;
-pub use place::Place;
+pub use task_place::{Locals, Place};
 pub use track::Track;

@@ -8,33 +8,20 @@ ghost use Rattle.kernel_model.specs.Value.{access, read, Element as Meant};
 ghost use Rattle.log_format.specs.declared.record.Kind.TheVariants as kind;
 ghost use Rattle.serial_run.specs.declared.halt.Halt.TheVariants as halt;
 ghost use Rattle.serial_run.specs.Going.{Goes, Logs, MakesRoom, Marks, progress};
-ghost use Rattle.serial_run.specs.Placing.{ElementLayout, StandsAt, meant};
+ghost use Rattle.serial_run.specs.Placing.{ElementLayout, StandsAt};
+ghost use Rattle.task_place.specs.Placing.{meant};
 
 use crate::halt::Halt;
 use crate::memory::Memory;
-use crate::place::Element;
 use kernel_syntax::fit;
 use log_format::{Kind, RECORD_LIMIT, Record, encode};
+use task_place::{Element, access};
 
 /// A task's log: the bytes of its records, and how many they are.
 #[derive(Drop)]
 pub struct Track {
     pub log: Vec<u8>,
     pub count: u32,
-}
-
-/// The record of an access.
-fn access(kind: Kind, element: &Element, line: u32, site: u16, value: i64) -> Record
-    ensures { result ≡ access kind (meant element.now) site line value }
-{
-    Record {
-        kind,
-        size: element.width,
-        site,
-        line,
-        addr: element.addr,
-        value: value.cast_unsigned(),
-    }
 }
 
 /// The record of a step that is no access.

@@ -7,9 +7,9 @@ ghost use Rattle.serial_run.specs.Going.{Goes, progress};
 ghost use Rattle.serial_run.specs.Placing.{ElementLayout, TellsWords};
 
 use crate::halt::Halt;
-use crate::locals::Locals;
+use task_place::Locals;
 use crate::memory::Memory;
-use crate::place::Place;
+use task_place::Place;
 use crate::track::Track;
 use kernel_model::negate;
 use kernel_syntax::{Expr, Op, apply};

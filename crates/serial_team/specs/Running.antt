@@ -81,9 +81,9 @@ pub record GoesFrom (layout : ElementLayout) (path : List Step) (x y : MemberVal
   pub then' : (z : MemberValue) → RanTo layout path y z → RanTo layout path x z
 
 -- by where it stands still, if it does
-abbrev pub Goes : ElementLayout → List Step → MemberValue → MemberValue → Option Stage → Type 0
-Goes layout path x y None = GoesFrom layout path x y
-Goes layout path x y (Some at) = RanTo layout path x (record y { stage = at })
+abbrev pub GoesTo : ElementLayout → List Step → MemberValue → MemberValue → Option Stage → Type 0
+GoesTo layout path x y None = GoesFrom layout path x y
+GoesTo layout path x y (Some at) = RanTo layout path x (record y { stage = at })
 
 -- these lanes have the elements of these arrays
 abbrev pub HaveArrays : List Array → List MemberValue → Type 0

@@ -5,7 +5,7 @@ ghost use Rattle.kernel_syntax.specs.Layout.{ArePlaced, elements};
 ghost use Rattle.kernel_syntax.specs.Program.{team_of};
 ghost use Rattle.serial_run.specs.Placing.{ElementLayout, TellsWords};
 ghost use Rattle.serial_team.specs.Members.{all_idle, pool, seen, whole_log};
-ghost use Rattle.serial_team.specs.Running.{Goes, HaveArrays, RanBelow, RanPhase, RanPhases, RanRegion, RanTo};
+ghost use Rattle.serial_team.specs.Running.{GoesTo, HaveArrays, RanBelow, RanPhase, RanPhases, RanRegion, RanTo};
 ghost use Rattle.serial_team.specs.Stopping.{StopsPast, IfStopped, LaneLong, LaneStopped, LongBelow, PhasesLong, PhasesStopped, RegionLong, RegionStopped, StopsBelow, TeamLong, TeamWent, told_first};
 
 use crate::member::{Member, Stage, TaskLog, all_at, begin_team, hand_on_all};
@@ -77,7 +77,7 @@ fn advance<'k>(
     requires placed { ArePlaced arrays.now (elements arrays.now) }
     requires deep { length path.now + depth ≤ 4 }
     ensures goes { (layout : ElementLayout) → TellsWords arrays.now layout → member.old.lane.place.arrays ≡ arrays.now
-        → IfOk result (λ to. Goes layout path.now (seen memory.old member.old) (seen memory.new member.new) to) }
+        → IfOk result (λ to. GoesTo layout path.now (seen memory.old member.old) (seen memory.new member.new) to) }
     ensures onward { (layout : ElementLayout) → TellsWords arrays.now layout → member.old.lane.place.arrays ≡ arrays.now
         → IfOk result (λ to. StopsPast layout path.now (seen memory.old member.old) (seen memory.new member.new) to) }
     ensures stops { (layout : ElementLayout) → TellsWords arrays.now layout → member.old.lane.place.arrays ≡ arrays.now

@@ -98,15 +98,12 @@ module _ (line : ℕ) where
       let q = access kind.Read cut.element cut.site cut.line (fitted cut.right cut.element.width) in
       let mine = finish_grows m in
       let other = finish_grows o in
-      let left = later cut.core.records r (state_of m).records d.left_adds.added (state_of (finish m)).records mine.added d.left_adds.records_are mine.records_are in
-      let right = later cut.core.records q (state_of o).records d.right_adds.added (state_of (finish o)).records other.added d.right_adds.records_are other.records_are in
+      let left = added_twice (cut.core.records ++ r ∷ []) (state_of m).records (state_of (finish m)).records d.left_adds.added mine.added d.left_adds.records_are mine.records_are ∙ append_assoc cut.core.records (r ∷ []) (d.left_adds.added ++ mine.added) in
+      let right = added_twice (cut.core.records ++ q ∷ []) (state_of o).records (state_of (finish o)).records d.right_adds.added other.added d.right_adds.records_are other.records_are ∙ append_assoc cut.core.records (q ∷ []) (d.right_adds.added ++ other.added) in
       subst (λ (l : List Record). GoAlike (ending_of (finish m)) (ending_of (finish o)) l (state_of (finish o)).records) (sym left)
       (subst (λ (l : List Record). GoAlike (ending_of (finish m)) (ending_of (finish o)) (cut.core.records ++ r ∷ (d.left_adds.added ++ mine.added)) l) (sym right)
       (alike_apart (ending_of (finish m)) (ending_of (finish o)) cut.core.records r q (d.left_adds.added ++ mine.added) (d.right_adds.added ++ other.added)
       (record { left = refl; right = refl; address = refl; size = refl; apart = λ is same. cut.apart (same_bits cut.left cut.right cut.element.width is same) })))
-    where
-      later : (core : List Record) (r : Record) (mid added end more : List Record) → mid ≡ (core ++ r ∷ []) ++ added → end ≡ mid ++ more → end ≡ core ++ (r ∷ (added ++ more))
-      later core r mid added end more one two = added_twice (core ++ r ∷ []) mid end added more one two ∙ append_assoc core (r ∷ []) (added ++ more)
 
   pair_alike : (m o : Outcome (Unit {0})) → Pair m o → Alike (finish m) (finish o)
   unfolding put

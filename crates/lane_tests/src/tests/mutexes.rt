@@ -14,13 +14,14 @@ use std::marker::Send;
 use std::sync::Wait;
 use std::thread::Threads;
 
-// What a lane with this hand leaves that takes mutex 1, and stops with it.
-fn stopped<R: Threads + Wait + Copy + Send + 'static>(
+// What a lane with this hand leaves that takes mutex 1, and then stops with it or gives it back.
+fn left<R: Threads + Wait + Copy + Send + 'static>(
     rt: &R,
     alloc: Global,
     world: &World,
     hand: Hand,
     draws: ChunkHand,
+    stops: bool,
 ) -> Option<MemLog>
     requires hand { Belongs hand world.now.words.table }
     requires home { hand.view.out ≡ [] }
@@ -33,29 +34,10 @@ fn stopped<R: Threads + Wait + Copy + Send + 'static>(
     let Ok(()) = track.lock(rt, alloc, world, 1, 5) else {
         return None;
     };
-    track.release(world, 1);
-    Some(log_of(rt, alloc, track))
-}
-
-// The same of one that takes it and gives it back.
-fn passed<R: Threads + Wait + Copy + Send + 'static>(
-    rt: &R,
-    alloc: Global,
-    world: &World,
-    hand: Hand,
-    draws: ChunkHand,
-) -> Option<MemLog>
-    requires hand { Belongs hand world.now.words.table }
-    requires home { hand.view.out ≡ [] }
-    requires free { hand.view.held ≡ [] }
-    requires mutex { 1 < world.now.words.locks }
-    requires draws { Belongs draws world.now.chunks.table }
-    requires enough { log_limit ≤ draws.view.left }
-{
-    let mut track = Track::new(alloc, hand, buffer(rt, alloc).ok()?, draws);
-    let Ok(()) = track.lock(rt, alloc, world, 1, 6) else {
-        return None;
-    };
+    if stops {
+        track.release(world, 1);
+        return Some(log_of(rt, alloc, track));
+    }
     let Ok(()) = track.unlock(rt, alloc, world, 1, 7) else {
         return None;
     };
@@ -80,10 +62,10 @@ fn a_mutex_released_at_a_stop_is_won_by_another(rt: HostRuntime) {
     let (chunks, mut draws) = Chunks::new(alloc, 0).expect(&rt, "memory");
     let lent = chunks.split(&mut draws);
     let world = World::new(&arrays, &words, &chunks, 0, 1);
-    let one = stopped(&rt, alloc, &world, one, draws);
-    let two = passed(&rt, alloc, &world, other, lent);
+    let one = left(&rt, alloc, &world, one, draws, true);
+    let two = left(&rt, alloc, &world, other, lent, false);
     assert!(rt; has(one, &[step(Kind::Lock, 1, 5)]));
-    assert!(rt; has(two, &[step(Kind::Lock, 1, 6), step(Kind::Unlock, 1, 7)]));
+    assert!(rt; has(two, &[step(Kind::Lock, 1, 5), step(Kind::Unlock, 1, 7)]));
 }
 
 #[test]

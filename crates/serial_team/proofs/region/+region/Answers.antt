@@ -18,7 +18,7 @@ use Rattle.serial_team.specs.declared.stop.StopWhy.TheVariants as why
 use Rattle.serial_team.specs.Stopping.{StopsPast, IfStopped, LaneLong, LaneStopped, LongBelow, PhasesLong, PhasesStopped, RegionLong, RegionStopped, StopsBelow, TeamWent}
 use Rattle.serial_team.proofs.Stopped.{TeamFromSo, TeamLongFrom, TeamCame, came_runs, came_stops, long_here, long_in_region, phases_stop_here, phases_stop_more, so_ends, stop_so, told_is_err, stops_in_region, stops_more, stops_past_region, stops_too_many}
 use Rattle.serial_team.specs.Members.{BeginTeam, Pool, whole_log, MemberValue, all_idle, idle_member, later, path_in, pool, seen}
-use Rattle.serial_team.specs.Running.{Goes, RanBelow, RanPhase, RanTo}
+use Rattle.serial_team.specs.Running.{GoesTo, RanBelow, RanPhase, RanTo}
 use Rattle.serial_team.proofs.Going.{arrays_at, goes_more, goes_past_region, if_err, if_then, ran_to_barrier, ran_to_end, value_of}
 use Rattle.serial_team.proofs.Phases.{PhaseFrom, phase_ends, phase_more, phases_last, phases_more}
 use Rattle.serial_team.proofs.region.+region.Goals as goal
@@ -76,7 +76,7 @@ go-returns-in-Some t c = record {
       let new = seen c.advance.new.memory c.advance.new.member in
       let before = c.steps.invariant.goes layout tells own in
       before.then' (record new { stage = c.in-Some.stage })
-      (subst (λ (o : Option Stage). Goes layout c.args.path.now mid new o) c.in-Some.is (c.in_ok-stage.ensures.goes layout tells (ap (λ (w : Site). w.arrays) before.at ∙ own)));
+      (subst (λ (o : Option Stage). GoesTo layout c.args.path.now mid new o) c.in-Some.is (c.in_ok-stage.ensures.goes layout tells (ap (λ (w : Site). w.arrays) before.at ∙ own)));
   stops = λ layout tells own. tt;
 }
 
@@ -88,7 +88,7 @@ go-steps-preserved t c = record {
       let new = seen c.advance.new.memory c.advance.new.member in
       let before = c.steps.invariant.goes layout tells own in
       goes_more layout c.args.path.now x mid new before
-      (subst (λ (o : Option Stage). Goes layout c.args.path.now mid new o) c.in_default.is (c.in_ok-stage.ensures.goes layout tells (ap (λ (w : Site). w.arrays) before.at ∙ own)));
+      (subst (λ (o : Option Stage). GoesTo layout c.args.path.now mid new o) c.in_default.is (c.in_ok-stage.ensures.goes layout tells (ap (λ (w : Site). w.arrays) before.at ∙ own)));
   stops = λ layout tells own.
       let mid = seen c.steps.memory c.steps.member in
       let new = seen c.advance.new.memory c.advance.new.member in

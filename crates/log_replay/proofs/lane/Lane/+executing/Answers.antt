@@ -1,5 +1,5 @@
 -- Statements, by what their parts do.
-use Rattle.std.proofs.Common.{◌≡◌, refl, ap, sym, ◌∙◌, subst, ℕ, ◌+◌, ◌-◌, ◌*◌, ◌^◌, ◌<◌, ◌≤◌, min, Bool, List, ℤ, pos, ◌+ℤ◌, ◌≤ℤ◌, length, take, drop, get_or, Ok, Err, w64, to_z, of_z, FitsSigned, rules, arith}
+use Rattle.std.proofs.Common.{◌≡◌, refl, ap, sym, ◌∙◌, subst, ℕ, ◌+◌, ◌-◌, ◌*◌, ◌^◌, ◌<◌, ◌≤◌, min, Bool, List, ℤ, pos, ◌+ℤ◌, ◌≤ℤ◌, length, take, drop, get_or, Ok, Err, w64, to_z, of_z, rules, arith}
 use Rattle.std.proofs.lemmas.Result.{err_from_is_err_and}
 use Rattle.std.proofs.lemmas.List.{take_all}
 use Rattle.std.proofs.lemmas.Option.{slice_get_read}
@@ -238,9 +238,7 @@ pub repeat-returns-in_err-statements-clause-follows : goal.repeat-returns-in_err
 repeat-returns-in_err-statements-clause-follows g t c =
     let p = err_from_is_err_and c.from_residual.result c.from_residual.ensures.1 in
     let from_is = to_z-of_z w64 c.args.from c.ranges.from in
-    let fits : FitsSigned w64 c.number_at.result = search rules in
-    let number_is : to_z w64 (of_z w64 c.number_at.result) ≡ c.args.from +ℤ pos (c.args.first + c.loop-i.i) =
-    to_z-of_z w64 c.number_at.result fits ∙ c.number_at.ensures ∙ ap (λ (z : ℤ). z +ℤ pos (c.args.first + c.loop-i.i)) from_is in
+    let number_is = to_z-of_z w64 c.number_at.result (search rules) ∙ c.number_at.ensures ∙ ap (λ (z : ℤ). z +ℤ pos (c.args.first + c.loop-i.i)) from_is in
     let before = subst (λ (z : ℤ). Follows (g.F.Folder.state c.args.folder.now) (turns c.loop-i.i c.args.first (turn_from c.args.place.now (code_of c.args.body.now.stmts.items) c.args.slot z)) (standing c.args.self.now) (standing c.loop-i.self) (Ok tt)) from_is c.loop-i.invariant.follows in
     let set_is = c.set.ensures.set ∙ ap (λ (z : ℤ). assigned c.args.slot z (standing c.loop-i.self)) number_is in
     let less : c.loop-i.i < c.args.count = omega arith in
@@ -253,9 +251,7 @@ repeat-returns-in_err-statements-clause-follows g t c =
 pub repeat-loop-i-preserved : goal.repeat-loop-i-preserved
 repeat-loop-i-preserved g t c =
     let from_is = to_z-of_z w64 c.args.from c.ranges.from in
-    let fits : FitsSigned w64 c.number_at.result = search rules in
-    let number_is : to_z w64 (of_z w64 c.number_at.result) ≡ c.args.from +ℤ pos (c.args.first + c.loop-i.i) =
-    to_z-of_z w64 c.number_at.result fits ∙ c.number_at.ensures ∙ ap (λ (z : ℤ). z +ℤ pos (c.args.first + c.loop-i.i)) from_is in
+    let number_is = to_z-of_z w64 c.number_at.result (search rules) ∙ c.number_at.ensures ∙ ap (λ (z : ℤ). z +ℤ pos (c.args.first + c.loop-i.i)) from_is in
     let before = subst (λ (z : ℤ). Follows (g.F.Folder.state c.args.folder.now) (turns c.loop-i.i c.args.first (turn_from c.args.place.now (code_of c.args.body.now.stmts.items) c.args.slot z)) (standing c.args.self.now) (standing c.loop-i.self) (Ok tt)) from_is c.loop-i.invariant.follows in
     let set_is = c.set.ensures.set ∙ ap (λ (z : ℤ). assigned c.args.slot z (standing c.loop-i.self)) number_is in
     record {

@@ -62,7 +62,7 @@ pub returns-in-Slot-clause-follows : goal.returns-in-Slot-clause-follows
 returns-in-Slot-clause-follows g t c =
     let fits : FitsSigned w64 c.get.result = search rules in
     subst (λ (v : ℤ). Follows (g.F.Folder.state c.args.folder.now) (value c.args.place.now (term_of c.args.expr.now)) (standing c.args.self.now) (standing c.args.self.now) (Ok v)) (sym (to_z-of_z w64 c.get.result fits ∙ c.get.ensures))
-    (subst (λ (e : Expr). Follows (g.F.Folder.state c.args.folder.now) (value c.args.place.now (term_of e)) (standing c.args.self.now) (standing c.args.self.now) (Ok (slice_index_or c.args.self.now.slots.items c.in-Slot.slot (pos 0)))) (sym c.in-Slot.is)
+    (subst (λ (e : Expr). Follows (g.F.Folder.state c.args.folder.now) (value c.args.place.now (term_of e)) (standing c.args.self.now) (standing c.args.self.now) (Ok (slice_index_or c.args.self.now.locals.slots.items c.in-Slot.slot (pos 0)))) (sym c.in-Slot.is)
     (slot_goes (g.F.Folder.state c.args.folder.now) c.args.place.now c.in-Slot.slot (standing c.args.self.now)))
 
 pub returns-in-Tid-clause-follows : goal.returns-in-Tid-clause-follows

@@ -21,11 +21,11 @@ returns-in_err-put-clause-follows g c =
 
 pub returns-clause-follows : goal.returns-clause-follows
 returns-clause-follows g c =
-    let slots_are : c.in_ok-slots.slots.items ≡ c.put.new.self.slots.items = search rules in
-    let forks_are : map fork_of c.push.new.self.items ≡ map fork_of c.put.new.self.forks.items ++ record { team = team_of c.args.team.now; slots = c.put.new.self.slots.items } ∷ [] =
+    let slots_are : c.in_ok-slots.slots.items ≡ c.put.new.self.locals.slots.items = search rules in
+    let forks_are : map fork_of c.push.new.self.items ≡ map fork_of c.put.new.self.forks.items ++ record { team = team_of c.args.team.now; slots = c.put.new.self.locals.slots.items } ∷ [] =
     ap (λ (l : List Forked). map fork_of l) c.in_ok-push.ensures.items ∙ map-append fork_of c.put.new.self.forks.items _
     ∙ ap (λ (l : List ℤ). map fork_of c.put.new.self.forks.items ++ record { team = team_of c.args.team.now; slots = l } ∷ []) slots_are in
     subst (λ (fs : List Fork). Follows (g.F.Folder.state c.args.folder.now) (run c.args.place.now (tree.Parallel c.args.team.now.span c.args.team.now.line c.args.team.now.end (code_of c.args.team.now.body.stmts.items) tree.Done)) (standing c.args.self.now)
-    (record { slots = c.put.new.self.slots.items; forks = fs; reading = c.put.new.self.reader; count = c.put.new.self.count }) (Ok tt)) (sym forks_are)
+    (record { slots = c.put.new.self.locals.slots.items; forks = fs; reading = c.put.new.self.reader; count = c.put.new.self.count }) (Ok tt)) (sym forks_are)
     (fork_goes (g.F.Folder.state c.args.folder.now) c.args.place.now (team_of c.args.team.now) (standing c.args.self.now) (standing c.put.new.self)
     (subst (λ (r : Record). Follows (g.F.Folder.state c.args.folder.now) (put r) (standing c.args.self.now) (standing c.put.new.self) (Ok tt)) (search rules) c.in_ok-put.ensures.follows))

@@ -2,7 +2,7 @@ use Rattle.std.proofs.Common.{ap, sym, ◌∙◌, ℤ, w64}
 use Rattle.std.proofs.lemmas.Int.{to_z-of_z}
 use Rattle.kernel_model.specs.Value.{element_at}
 use Rattle.log_replay.specs.Forks.{standing}
-use Rattle.log_replay.specs.Placing.{meant}
+use Rattle.task_place.specs.Placing.{meant}
 use Rattle.log_replay.proofs.Values.{loads_none, loads_some}
 use Rattle.log_replay.proofs.lane.Lane.load.Goals as goal
 

@@ -1,13 +1,12 @@
 use Rattle.std.proofs.Common.{refl, rules}
-use Rattle.std.proofs.lemmas.Result.{err_from_is_err_and}
+use Rattle.kernel_model.specs.State.{put}
 use Rattle.log_replay.specs.Forks.{standing}
-use Rattle.log_replay.proofs.Stepping.{put_reaches, put_strays, unread}
+use Rattle.log_replay.proofs.Stepping.{put_reaches, put_strays, follows_unread}
 use Rattle.log_replay.proofs.lane.Lane.put.Goals as goal
 
 pub returns-in_err-next-clause-follows : goal.returns-in_err-next-clause-follows
 returns-in_err-next-clause-follows g c =
-    let p = err_from_is_err_and c.from_residual.result c.from_residual.ensures.1 in
-    rw (p.1, p.2) (λ log done rest at. unread (g.F.Folder.state c.args.folder.now) log rest _ (standing c.args.self.now) (standing c.next.new.self) c.in_err-next.field-0.0 (c.in_err-next.ensures.takes log done rest at))
+    follows_unread (g.F.Folder.state c.args.folder.now) (put c.args.due) (standing c.args.self.now) (standing c.next.new.self) c.in_err-next.field-0.0 c.from_residual.result c.from_residual.ensures.1 c.in_err-next.ensures.takes
 
 pub returns-then-not-is_same-clause-follows : goal.returns-then-not-is_same-clause-follows
 returns-then-not-is_same-clause-follows g c = λ log done rest at.

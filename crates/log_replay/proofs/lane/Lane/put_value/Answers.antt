@@ -8,7 +8,7 @@ use Rattle.kernel_model.specs.Value.{access, element_at}
 use Rattle.log_format.specs.declared.record.Record.{Record}
 use Rattle.log_replay.specs.Following.{Follows, IsMark}
 use Rattle.log_replay.specs.Forks.{standing}
-use Rattle.log_replay.specs.Placing.{meant}
+use Rattle.task_place.specs.Placing.{meant}
 use Rattle.log_replay.proofs.Statements.{change_mark, changes_none, changes_some}
 use Rattle.log_replay.proofs.lane.Lane.put_value.Goals as goal
 

@@ -1,4 +1,4 @@
-use Rattle.std.proofs.Common.{List, [], refl, ap, sym, subst, map, Option}
+use Rattle.std.proofs.Common.{List, [], refl, ap, sym, subst, map}
 use Rattle.std.proofs.lemmas.Result.{err_from_is_err_and}
 use Rattle.sw_base.specs.Environment.{FolderState}
 use Rattle.kernel_syntax.specs.Program.{team_of}
@@ -12,10 +12,10 @@ pub returns-in_err-statements-clause-compares : goal.returns-in_err-statements-c
 returns-in_err-statements-clause-compares g c =
     let p = err_from_is_err_and c.from_residual.result c.from_residual.ensures.1 in
     rw (p.1, p.2) (λ log at forks program arrays span.
-    body_stops (g.F.Folder.state c.args.folder.now) log program (record { team = team_of c.args.team.now; lane = c.args.place.now.lane; slots = c.args.self.now.slots.items }) c.args.place.now (site_of_start program (team_of c.args.team.now) c.args.place.now.lane c.args.self.now.slots.items c.args.place.now arrays span refl) (standing c.args.self.now) at refl (ap (λ (l : List Forked). map fork_of l) forks) (standing c.statements.new.self) c.in_err-statements.field-0.0 c.in_err-statements.ensures.follows)
+    body_stops (g.F.Folder.state c.args.folder.now) log program (record { team = team_of c.args.team.now; lane = c.args.place.now.lane; slots = c.args.self.now.locals.slots.items }) c.args.place.now (site_of_start program (team_of c.args.team.now) c.args.place.now.lane c.args.self.now.locals.slots.items c.args.place.now arrays span refl) (standing c.args.self.now) at refl (ap (λ (l : List Forked). map fork_of l) forks) (standing c.statements.new.self) c.in_err-statements.field-0.0 c.in_err-statements.ensures.follows)
 
 pub returns-clause-compares : goal.returns-clause-compares
 returns-clause-compares g c = λ log at forks program arrays span.
     let reached = c.in_ok-statements.ensures.follows log [] log at in
-    task_ends (g.F.Folder.state c.args.folder.now) log program (record { team = team_of c.args.team.now; lane = c.args.place.now.lane; slots = c.args.self.now.slots.items }) c.args.place.now (site_of_start program (team_of c.args.team.now) c.args.place.now.lane c.args.self.now.slots.items c.args.place.now arrays span refl) (standing c.args.self.now) at refl (ap (λ (l : List Forked). map fork_of l) forks) (standing c.statements.new.self) (standing c.finish.new.self) reached c.finish.result
+    task_ends (g.F.Folder.state c.args.folder.now) log program (record { team = team_of c.args.team.now; lane = c.args.place.now.lane; slots = c.args.self.now.locals.slots.items }) c.args.place.now (site_of_start program (team_of c.args.team.now) c.args.place.now.lane c.args.self.now.locals.slots.items c.args.place.now arrays span refl) (standing c.args.self.now) at refl (ap (λ (l : List Forked). map fork_of l) forks) (standing c.statements.new.self) (standing c.finish.new.self) reached c.finish.result
     (c.finish.ensures.ends log reached.done reached.rest (subst (λ (t : FolderState). IsAt t log reached.done reached.rest (standing c.statements.new.self)) (sym c.statements.ensures.same) reached.at))

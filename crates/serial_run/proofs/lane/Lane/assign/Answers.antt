@@ -1,15 +1,14 @@
-use Rattle.std.proofs.Common.{refl, ap, sym, ◌∙◌, [], ℤ, w64, rules}
+use Rattle.std.proofs.Common.{ap, ◌∙◌, ℤ, w64, rules}
 use Rattle.std.specs.Prelude.{slice_set}
 use Rattle.std.proofs.lemmas.Result.{err_from_is_err_and}
 use Rattle.std.proofs.lemmas.Int.{to_z-of_z}
-use Rattle.std.proofs.lemmas.List.{append-nil}
 use Rattle.kernel_syntax.specs.Program.{term_of}
 use Rattle.kernel_syntax.specs.Tree as tree
 use Rattle.kernel_syntax.specs.Tree.{Done}
 use Rattle.kernel_model.specs.Trace.{run}
 use Rattle.serial_run.specs.Going.{progress}
 use Rattle.serial_run.specs.Stepping.{stand}
-use Rattle.serial_run.proofs.Leading.{halts_goes}
+use Rattle.serial_run.proofs.Leading.{halts_goes, stepped_still}
 use Rattle.serial_run.proofs.Statements.{set_stops, set_steps}
 use Rattle.serial_run.proofs.lane.Lane.assign.Goals as goal
 
@@ -24,13 +23,7 @@ returns-in_err-number c =
 pub returns : goal.returns
 returns c =
     let x = stand c.args.self.now c.args.memory.now in
-    λ layout tells. record {
-      at = refl;
-      end = refl;
-      pushed = [];
-      rest = sym (append-nil x.rest);
-      steps =
-          set_steps layout x.at x.slots c.args.slot (term_of c.args.value.now) x.progress (progress c.value.new.self c.value.new.memory) c.in_ok-number.number c.set.new.self.slots.items
-          (c.set.ensures ∙ ap (λ (z : ℤ). slice_set x.slots c.args.slot z) (to_z-of_z w64 c.in_ok-number.number (search rules)))
-          (c.in_ok-number.ensures layout tells);
-    }
+    λ layout tells. stepped_still x
+    (set_steps layout x.at x.slots c.args.slot (term_of c.args.value.now) x.progress (progress c.value.new.self c.value.new.memory) c.in_ok-number.number c.set.new.self.slots.items
+    (c.set.ensures ∙ ap (λ (z : ℤ). slice_set x.slots c.args.slot z) (to_z-of_z w64 c.in_ok-number.number (search rules)))
+    (c.in_ok-number.ensures layout tells))

@@ -1,6 +1,5 @@
-use Rattle.std.proofs.Common.{◌≡◌, Err, refl, ap, sym, ◌∙◌, subst, ℕ, []}
+use Rattle.std.proofs.Common.{◌≡◌, Err, refl, ap, ◌∙◌, subst, ℕ}
 use Rattle.std.proofs.lemmas.Result.{err_from_is_err_and}
-use Rattle.std.proofs.lemmas.List.{append-nil}
 use Rattle.log_format.specs.declared.record.Kind.TheVariants as kind
 use Rattle.log_format.specs.declared.record.Record.{Record}
 use Rattle.kernel_syntax.specs.Program.{team_of}
@@ -11,6 +10,7 @@ use Rattle.kernel_model.specs.Trace.{run, forked}
 use Rattle.kernel_model.proofs.Equations.{run-Parallel, put-full}
 use Rattle.serial_run.specs.Going.{Logs, Marks, progress}
 use Rattle.serial_run.specs.Stepping.{stand}
+use Rattle.serial_run.proofs.Leading.{stepped_still}
 use Rattle.serial_run.proofs.Statements.{fork_steps, halts_marks}
 use Rattle.serial_run.proofs.lane.Lane.fork.Goals as goal
 
@@ -31,12 +31,6 @@ returns c =
     let x = stand c.args.self.now c.args.memory.now in
     let team = team_of c.args.team.now in
     let is : c.event.result ≡ event kind.Region team.line 0 team.span = c.event.ensures ∙ ap (λ (n : ℕ). event kind.Region team.line 0 n) c.from.ensures in
-    λ layout. record {
-      at = refl;
-      end = refl;
-      pushed = [];
-      rest = sym (append-nil x.rest);
-      steps =
-          fork_steps layout x.at x.slots team x.progress (progress c.put.new.self c.put.new.memory) (c.in_ok-put.ensures.0)
-          (subst (λ (r : Record). Logs r x.progress (progress c.put.new.self c.put.new.memory)) is c.in_ok-put.ensures.1);
-    }
+    λ layout. stepped_still x
+    (fork_steps layout x.at x.slots team x.progress (progress c.put.new.self c.put.new.memory) (c.in_ok-put.ensures.0)
+    (subst (λ (r : Record). Logs r x.progress (progress c.put.new.self c.put.new.memory)) is c.in_ok-put.ensures.1))

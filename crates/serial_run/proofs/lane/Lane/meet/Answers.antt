@@ -1,13 +1,12 @@
-use Rattle.std.proofs.Common.{Err, refl, sym, subst, []}
+use Rattle.std.proofs.Common.{Err, refl, subst}
 use Rattle.std.proofs.lemmas.Result.{err_from_is_err_and}
-use Rattle.std.proofs.lemmas.List.{append-nil}
 use Rattle.log_format.specs.declared.record.Kind.TheVariants as kind
 use Rattle.log_format.specs.declared.record.Record.{Record}
 use Rattle.kernel_model.specs.State.{put, event}
 use Rattle.kernel_model.proofs.Equations.{put-full}
 use Rattle.serial_run.specs.Going.{Logs, Marks, progress}
 use Rattle.serial_run.specs.Stepping.{stand}
-use Rattle.serial_run.proofs.Leading.{steps_put}
+use Rattle.serial_run.proofs.Leading.{steps_put, stepped_still}
 use Rattle.serial_run.proofs.Statements.{halts_marks}
 use Rattle.serial_run.proofs.lane.Lane.meet.Goals as goal
 
@@ -26,13 +25,7 @@ returns c =
     let due = event kind.Barrier c.args.line 0 0 in
     λ layout. (
       c.args.line,
-      record {
-        at = refl;
-        end = refl;
-        pushed = [];
-        rest = sym (append-nil x.rest);
-        steps =
-            steps_put layout x.at due x.slots x.progress (progress c.put.new.self c.put.new.memory) c.in_ok-put.ensures.0
-            (subst (λ (r : Record). Logs r x.progress (progress c.put.new.self c.put.new.memory)) c.event.ensures c.in_ok-put.ensures.1) tt refl refl refl;
-      },
+      stepped_still x
+      (steps_put layout x.at due x.slots x.progress (progress c.put.new.self c.put.new.memory) c.in_ok-put.ensures.0
+      (subst (λ (r : Record). Logs r x.progress (progress c.put.new.self c.put.new.memory)) c.event.ensures c.in_ok-put.ensures.1) tt refl refl refl),
     )

@@ -1,5 +1,4 @@
-use Rattle.std.proofs.Common.{◌≡◌, refl, ap, sym, ◌∙◌, List, [], ◌∷◌, length, arith}
-use Rattle.std.proofs.lemmas.List.{append-nil}
+use Rattle.std.proofs.Common.{◌≡◌, refl, ap, ◌∙◌, List, [], ◌∷◌, length, arith}
 use Rattle.kernel_syntax.specs.declared.syntax.Stmt.{Stmt}
 use Rattle.kernel_syntax.specs.Program.{code_of, stmt_code}
 use Rattle.kernel_syntax.specs.Tree.{Done}
@@ -10,7 +9,7 @@ use Rattle.kernel_model.proofs.Joining.{run-first}
 use Rattle.serial_run.specs.declared.frame.Frame.{Frame}
 use Rattle.serial_run.specs.declared.frame.Frame.TheVariants as frame
 use Rattle.serial_run.specs.Stepping.{stand}
-use Rattle.serial_run.proofs.Leading.{steps_push}
+use Rattle.serial_run.proofs.Leading.{steps_push, stepped_still}
 use Rattle.serial_run.proofs.Statements.{takes_first, takes_same}
 use Rattle.serial_run.proofs.lane.Lane.next.Goals as goal
 
@@ -22,15 +21,9 @@ pub returns-in_default : goal.returns-in_default
 returns-in_default c =
     let none = no_items c.args.stmts.now c.in_default.ensures.cases in
     let x = stand c.args.self.now c.args.memory.now in
-    λ layout tells. record {
-      at = refl;
-      end = refl;
-      pushed = [];
-      rest = sym (append-nil x.rest);
-      steps =
-          steps_push layout x.at (run x.at (code_of c.args.stmts.now)) x.slots x.progress []
-          (λ then' s. ap (λ (l : List Stmt). after (run x.at (code_of l) s) then') none ∙ ap (λ o. after o then') (run-Done x.at s));
-    }
+    λ layout tells. stepped_still x
+    (steps_push layout x.at (run x.at (code_of c.args.stmts.now)) x.slots x.progress []
+    (λ then' s. ap (λ (l : List Stmt). after (run x.at (code_of l) s) then') none ∙ ap (λ o. after o then') (run-Done x.at s)))
 
 pub returns : goal.returns
 returns c =

@@ -9,7 +9,7 @@ use Rattle.serial_run.specs.declared.frame.Frame.{Frame}
 use Rattle.serial_run.specs.Going.{progress}
 use Rattle.serial_run.specs.Resting.{end_frames}
 use Rattle.serial_run.specs.Stepping.{Steps, stand}
-use Rattle.serial_run.specs.declared.locals.Locals.{Locals}
+use Rattle.task_place.specs.declared.locals.Locals.{Locals}
 use Rattle.serial_run.specs.declared.track.Track.{Track}
 use Rattle.serial_run.proofs.Leading.{halts_goes}
 use Rattle.serial_run.proofs.Loops.{for_part, for_from_stops, for_to_stops, for_steps}

@@ -1,7 +1,6 @@
-use Rattle.std.proofs.Common.{refl, ap, sym, ◌∙◌, subst, [], ℤ, Ok, Err, w64, rules}
+use Rattle.std.proofs.Common.{ap, sym, ◌∙◌, subst, ℤ, Ok, Err, w64, rules}
 use Rattle.std.proofs.lemmas.Result.{err_from_is_err_and}
 use Rattle.std.proofs.lemmas.Int.{to_z-of_z}
-use Rattle.std.proofs.lemmas.List.{append-nil}
 use Rattle.log_format.specs.declared.record.Kind.TheVariants as kind
 use Rattle.log_format.specs.Fitting.{fitted}
 use Rattle.kernel_syntax.specs.Program.{term_of}
@@ -9,9 +8,10 @@ use Rattle.kernel_model.specs.State.{put}
 use Rattle.kernel_model.specs.Value.{element_at, access}
 use Rattle.serial_run.specs.declared.halt.Halt.TheVariants as halt
 use Rattle.serial_run.specs.Going.{progress, Goes}
-use Rattle.serial_run.specs.Placing.{meant}
+use Rattle.task_place.specs.Placing.{meant}
 use Rattle.serial_run.specs.Stepping.{stand}
-use Rattle.serial_run.proofs.Leading.{halts_goes, steps_made}
+use Rattle.serial_run.proofs.Elements.{stands_at}
+use Rattle.serial_run.proofs.Leading.{halts_goes, steps_made, stepped_still}
 use Rattle.serial_run.proofs.Statements.{store, index_stops, value_stops, stores_none, stores_some}
 use Rattle.serial_run.proofs.lane.Lane.store.Goals as goal
 
@@ -57,7 +57,7 @@ returns-in_err-store c =
     (stores_some layout x.at x.slots c.args.array (term_of c.args.index.now) (term_of c.args.value.now) c.args.line c.args.site x.progress mid new c.in_ok-at.at (c.in_ok-at.ensures layout tells) c.in_ok-number.number (c.in_ok-number.ensures layout tells)
     e last (Err c.in_err-store.field-0.0) (ap (λ (z : ℤ). element_at x.at.arrays c.args.array z) (sym (to_z-of_z w64 c.in_ok-at.at (search rules))) ∙ c.in-Some.ensures.is)
     (subst (λ (z : ℤ). Goes layout (put (access kind.Write (meant e) c.args.site c.args.line (fitted z e.width))) x.slots x.slots new last (Err c.in_err-store.field-0.0)) (to_z-of_z w64 c.in_ok-number.number (search rules))
-    (c.in_err-store.ensures layout x.slots (c.in-Some.ensures.stands layout tells)))))
+    (c.in_err-store.ensures layout x.slots (stands_at c.in-Some.ensures layout tells)))))
 
 pub returns : goal.returns
 returns c =
@@ -66,15 +66,9 @@ returns c =
     let new = progress c.value-2.new.self c.value-2.new.memory in
     let last = progress c.store.new.self c.store.new.memory in
     let e = c.in-Some.element in
-    λ layout tells. record {
-      at = refl;
-      end = refl;
-      pushed = [];
-      rest = sym (append-nil x.rest);
-      steps =
-          steps_made layout x.at (store layout x.at x.slots c.args.array (term_of c.args.index.now) (term_of c.args.value.now) c.args.line c.args.site x.progress) x.slots x.slots x.progress last
-          (stores_some layout x.at x.slots c.args.array (term_of c.args.index.now) (term_of c.args.value.now) c.args.line c.args.site x.progress mid new c.in_ok-at.at (c.in_ok-at.ensures layout tells) c.in_ok-number.number (c.in_ok-number.ensures layout tells)
-          e last (Ok tt) (ap (λ (z : ℤ). element_at x.at.arrays c.args.array z) (sym (to_z-of_z w64 c.in_ok-at.at (search rules))) ∙ c.in-Some.ensures.is)
-          (subst (λ (z : ℤ). Goes layout (put (access kind.Write (meant e) c.args.site c.args.line (fitted z e.width))) x.slots x.slots new last (Ok tt)) (to_z-of_z w64 c.in_ok-number.number (search rules))
-          (c.in_ok-store.ensures layout x.slots (c.in-Some.ensures.stands layout tells))));
-    }
+    λ layout tells. stepped_still x
+    (steps_made layout x.at (store layout x.at x.slots c.args.array (term_of c.args.index.now) (term_of c.args.value.now) c.args.line c.args.site x.progress) x.slots x.slots x.progress last
+    (stores_some layout x.at x.slots c.args.array (term_of c.args.index.now) (term_of c.args.value.now) c.args.line c.args.site x.progress mid new c.in_ok-at.at (c.in_ok-at.ensures layout tells) c.in_ok-number.number (c.in_ok-number.ensures layout tells)
+    e last (Ok tt) (ap (λ (z : ℤ). element_at x.at.arrays c.args.array z) (sym (to_z-of_z w64 c.in_ok-at.at (search rules))) ∙ c.in-Some.ensures.is)
+    (subst (λ (z : ℤ). Goes layout (put (access kind.Write (meant e) c.args.site c.args.line (fitted z e.width))) x.slots x.slots new last (Ok tt)) (to_z-of_z w64 c.in_ok-number.number (search rules))
+    (c.in_ok-store.ensures layout x.slots (stands_at c.in-Some.ensures layout tells)))))

@@ -2,7 +2,8 @@ use Rattle.std.proofs.Common.{ap, sym, ◌∙◌, ℤ, w64}
 use Rattle.std.proofs.lemmas.Int.{to_z-of_z}
 use Rattle.kernel_model.specs.Value.{element_at}
 use Rattle.serial_run.specs.Going.{progress}
-use Rattle.serial_run.specs.Placing.{meant}
+use Rattle.task_place.specs.Placing.{meant}
+use Rattle.serial_run.proofs.Elements.{stands_at}
 use Rattle.serial_run.proofs.Values.{loads_none, loads_some}
 use Rattle.serial_run.proofs.track.Track.load.Goals as goal
 
@@ -15,4 +16,4 @@ pub returns : goal.returns
 returns c = λ layout slots tells.
     loads_some layout c.args.place.now slots (element_at c.args.place.now.arrays c.args.array c.args.index) (meant c.in-Some.element) c.args.line c.args.site (progress c.args.self.now c.args.memory.now) (progress c.read.new.self c.read.new.memory) c.read.result
     (ap (λ (z : ℤ). element_at c.args.place.now.arrays c.args.array z) (sym (to_z-of_z w64 c.args.index c.ranges.index)) ∙ c.in-Some.ensures.is)
-    (c.read.ensures layout slots (c.in-Some.ensures.stands layout tells))
+    (c.read.ensures layout slots (stands_at c.in-Some.ensures layout tells))

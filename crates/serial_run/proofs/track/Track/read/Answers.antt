@@ -9,7 +9,7 @@ use Rattle.kernel_model.specs.Value.{access, read}
 use Rattle.kernel_model.specs.Effect.{Returned}
 use Rattle.kernel_model.proofs.Effects.{makes-read_full}
 use Rattle.serial_run.specs.Going.{Progress, progress, Made, Logs}
-use Rattle.serial_run.specs.Placing.{meant}
+use Rattle.task_place.specs.Placing.{meant}
 use Rattle.serial_run.proofs.Stepping.{goes_full, read_made}
 use Rattle.serial_run.proofs.track.Track.read.Goals as goal
 

@@ -1,6 +1,6 @@
 use Rattle.std.proofs.Common.{refl, ap, ◌∙◌, List, map}
 use Rattle.std.specs.List.{each_same}
-use Rattle.serial_run.specs.declared.locals.Locals.{Locals}
+use Rattle.task_place.specs.declared.locals.Locals.{Locals}
 use Rattle.serial_run.specs.declared.track.Track.{Track}
 use Rattle.serial_team.specs.declared.member.TaskLog.{TaskLog}
 use Rattle.serial_team.specs.Members.{whole_log}
