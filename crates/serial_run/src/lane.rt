@@ -17,13 +17,12 @@ ghost use Rattle.serial_run.specs.declared.frame.Frame.TheVariants as frame;
 
 use crate::frame::{Frame, Pause};
 use crate::halt::Halt;
-use task_place::Locals;
 use crate::memory::Memory;
-use task_place::Place;
 use crate::track::{Track, event};
 use kernel_syntax::{Body, Expr, Schedule, Stmt, Team, even_share};
 use log_format::Kind;
 use std::alloc::Global;
+use task_place::{Locals, Place};
 
 /// A task: where it runs, the line of its End, its locals, what is left of it, and its log.
 #[derive(Drop)]

@@ -7,12 +7,11 @@ ghost use Rattle.serial_run.specs.Going.{Goes, progress};
 ghost use Rattle.serial_run.specs.Placing.{ElementLayout, TellsWords};
 
 use crate::halt::Halt;
-use task_place::Locals;
 use crate::memory::Memory;
-use task_place::Place;
 use crate::track::Track;
 use kernel_model::negate;
 use kernel_syntax::{Expr, Op, apply};
+use task_place::{Locals, Place};
 
 // The operation on two values, or the stop of a zero divisor.
 fn operate(op: Op, line: u32, left: i64, right: i64) -> Result<i64, Halt>

@@ -26,6 +26,6 @@ returns c =
     λ layout. (
       c.args.line,
       stepped_still x
-      (steps_put layout x.at due x.slots x.progress (progress c.put.new.self c.put.new.memory) c.in_ok-put.ensures.0
-      (subst (λ (r : Record). Logs r x.progress (progress c.put.new.self c.put.new.memory)) c.event.ensures c.in_ok-put.ensures.1) tt refl refl refl),
+          (steps_put layout x.at due x.slots x.progress (progress c.put.new.self c.put.new.memory) c.in_ok-put.ensures.0
+          (subst (λ (r : Record). Logs r x.progress (progress c.put.new.self c.put.new.memory)) c.event.ensures c.in_ok-put.ensures.1) tt refl refl refl),
     )
