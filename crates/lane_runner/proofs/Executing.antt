@@ -14,7 +14,7 @@ use Rattle.kernel_model.specs.Phases.{part_of}
 use Rattle.kernel_model.specs.State.{event}
 use Rattle.shared_words.specs.declared.view.View.{View}
 use Rattle.shared_words.specs.Handles.{HandValue}
-use Rattle.lane_runner.specs.declared.locals.Locals.{Locals}
+use Rattle.task_place.specs.declared.locals.Locals.{Locals}
 use Rattle.lane_runner.specs.declared.stop.Halt.{Halt}
 use Rattle.lane_runner.specs.Children.{LogView}
 use Rattle.lane_runner.specs.Forking.{Answer, IsReady}

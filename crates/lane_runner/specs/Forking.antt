@@ -18,7 +18,7 @@ use Rattle.history_model.specs.Sound.{ArePhasesSound}
 use Rattle.history_model.specs.Joined.{PhasesEnd, ArePhasesJoined}
 use Rattle.execution_model.specs.Execution.{DrewSome}
 use Rattle.execution_model.specs.Runs.{RunsTask, lane_begin, region_logs}
-use Rattle.lane_runner.specs.declared.locals.Locals.{Locals}
+use Rattle.task_place.specs.declared.locals.Locals.{Locals}
 use Rattle.lane_runner.specs.declared.stop.Stop.{Stop}
 use Rattle.lane_runner.specs.Children.{LogView, AreNewLogs}
 use Rattle.lane_runner.specs.Handed.{Entry, HandsOn, MaybeStop, entries_of, place_of}

@@ -12,7 +12,6 @@ ghost use Rattle.lane_runner.specs.Going.{CanGo, Goes, IsSameLog, site};
 ghost use Rattle.lane_runner.specs.Teams.{EachTeam, MayFork};
 
 use crate::frame::Frame;
-use crate::locals::Locals;
 use crate::stop::{Halt, Stop};
 use crate::value::value;
 use crate::world::World;
@@ -24,6 +23,7 @@ use std::marker::Send;
 use std::sync::Wait;
 use std::thread::Threads;
 use sw_base::{ClosedLog, Log, Path};
+use task_place::Locals;
 
 /// How many turns a loop has.
 pub(crate) fn total_of(from: i64, to: i64) -> u64

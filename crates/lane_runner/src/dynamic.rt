@@ -11,7 +11,6 @@ ghost use Rattle.lane_runner.specs.Going.{CanGo, Goes, IsSameLog, site};
 ghost use Rattle.lane_runner.specs.Teams.{EachTeam, MayFork};
 
 use crate::frame::Frame;
-use crate::locals::Locals;
 use crate::stop::{Halt, Stop};
 use crate::world::World;
 use kernel_syntax::{Body, Team};
@@ -21,6 +20,7 @@ use std::marker::Send;
 use std::sync::Wait;
 use std::thread::Threads;
 use sw_base::{ClosedLog, Log, Path};
+use task_place::Locals;
 
 impl<L: Log> Frame<L> {
     /// Draws a chunk of the loop that is open, and executes it. False where none is left.

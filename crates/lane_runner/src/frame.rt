@@ -1,8 +1,8 @@
 //! What a lane executes with.
 
-use crate::locals::Locals;
 use crate::track::Track;
 use sw_base::Log;
+use task_place::Locals;
 
 /// What a lane executes with: its local variables, and what it steps with.
 #[derive(Drop)]

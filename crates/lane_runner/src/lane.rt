@@ -5,7 +5,6 @@ ghost use Rattle.lane_runner.specs.Phase.{IsPhase};
 ghost use Rattle.lane_runner.specs.Teams.{EachTeamIn, MayFork};
 
 use crate::frame::Frame;
-use crate::locals::Locals;
 use crate::stop::{Halt, Stop};
 use crate::track::Track;
 use crate::world::World;
@@ -17,6 +16,7 @@ use std::marker::{Model, Send};
 use std::sync::Wait;
 use std::thread::Threads;
 use sw_base::{ClosedLog, Log, Path};
+use task_place::Locals;
 
 /// A lane of a team: the path of its task; its locals, its hands, the buffer before its log, and the logs that its regions handed on; and,
 /// if it doesn't go on, the path of the task that stopped, its own or one in the region that it forked last, and why. Its number in

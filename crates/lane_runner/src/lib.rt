@@ -27,7 +27,6 @@ mod fitting;
 mod frame;
 mod lane;
 mod laws;
-mod locals;
 mod phase;
 mod run_phase;
 mod sharing;
@@ -43,8 +42,7 @@ pub use laws::{
     arrays_of_a_kernel_have_words, elements_of_a_kernel_have_widths,
     handed_logs_are_of_tasks_below, handed_logs_are_those_of_the_tasks,
 };
-pub use locals::Locals;
 pub use stop::{Halt, Stop, TASK_LIMIT};
-pub use task_place::Element;
+pub use task_place::{Element, Locals};
 pub use track::Track;
 pub use world::World;

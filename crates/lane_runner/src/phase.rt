@@ -11,7 +11,6 @@ ghost use Rattle.lane_runner.specs.Phase.{IsItem, IsOfTeam};
 ghost use Rattle.lane_runner.specs.Teams.{EachTeam, EachTeamIn, MayFork};
 
 use crate::frame::Frame;
-use crate::locals::Locals;
 use crate::stop::{Halt, Stop};
 use crate::world::World;
 use kernel_model::Item;
@@ -22,6 +21,7 @@ use std::marker::Send;
 use std::sync::Wait;
 use std::thread::Threads;
 use sw_base::{ClosedLog, Log, Path};
+use task_place::Locals;
 
 impl<L: Log> Frame<L> {
     /// Executes a statement of the team: of a worksharing loop all but the barrier at its end.

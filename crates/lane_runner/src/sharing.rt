@@ -14,7 +14,6 @@ ghost use Rattle.lane_runner.specs.Teams.{EachTeam, MayFork};
 
 use crate::body::total_of;
 use crate::frame::Frame;
-use crate::locals::Locals;
 use crate::stop::{Halt, Stop};
 use crate::value::value;
 use crate::world::World;
@@ -25,6 +24,7 @@ use std::marker::Send;
 use std::sync::Wait;
 use std::thread::Threads;
 use sw_base::{ClosedLog, Log, Path};
+use task_place::Locals;
 
 impl<L: Log> Frame<L> {
     /// Executes the lane's chunks of a loop whose chunks are dealt in turn.

@@ -21,7 +21,6 @@ ghost use Rattle.lane_runner.specs.Placing.{StandsIn, change_deed};
 ghost use Rattle.task_place.specs.Placing.{meant};
 
 use crate::children::children;
-use crate::locals::Locals;
 use crate::stop::{Halt, Stop, TASK_LIMIT};
 use crate::world::World;
 use event_buffer::{Buffer, BufferFault};
@@ -35,7 +34,7 @@ use std::mem;
 use std::sync::Wait;
 use std::thread::Threads;
 use sw_base::{ClosedLog, Log, Path};
-use task_place::Element;
+use task_place::{Element, Locals};
 
 /// A lane's hand on the shared words, the buffer before its log, its hand on the counters of its team's loops, and the logs that the
 /// regions of its task handed on.

@@ -7,7 +7,6 @@ ghost use Rattle.kernel_model.specs.Value.{element_at, loaded, value};
 ghost use Rattle.lane_runner.specs.Compound.{IsCompound};
 ghost use Rattle.lane_runner.specs.Going.{CanGo, Goes, IsSameLog, site};
 
-use crate::locals::Locals;
 use crate::stop::Halt;
 use crate::track::Track;
 use crate::world::World;
@@ -18,6 +17,7 @@ use std::marker::Send;
 use std::sync::Wait;
 use std::thread::Threads;
 use sw_base::Log;
+use task_place::Locals;
 
 /// Reads an element, after its index.
 fn load<L: Log, R: Threads + Wait + Copy + Send + 'static>(

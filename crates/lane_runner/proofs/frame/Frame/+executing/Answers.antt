@@ -17,7 +17,7 @@ use Rattle.shared_words.specs.declared.view.View.{View}
 use Rattle.shared_words.specs.Handles.{HandValue}
 use Rattle.kernel_model.specs.Drawing.{turn_from}
 use Rattle.lane_runner.specs.Alone.{IsAlone}
-use Rattle.lane_runner.specs.declared.locals.Locals.{Locals}
+use Rattle.task_place.specs.declared.locals.Locals.{Locals}
 use Rattle.lane_runner.specs.Going.{Goes, Made, site}
 use Rattle.lane_runner.proofs.Running.{made_done, goes_assigned}
 use Rattle.kernel_model.proofs.StmtLists.{split_at, grown, bounded_at}

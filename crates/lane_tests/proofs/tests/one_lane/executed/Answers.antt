@@ -13,7 +13,7 @@ use Rattle.kernel_syntax.specs.Program.{stmt_code}
 use Rattle.kernel_syntax.specs.Tree.{TeamTree, Code, Done, Set, Store, Update, If, Loop, Parallel, For, Barrier, Critical}
 use Rattle.shared_words.specs.declared.view.View.{View}
 use Rattle.shared_words.specs.Handles.{HandValue, WordsValue, ChunksValue}
-use Rattle.lane_runner.specs.declared.locals.Locals.{Locals}
+use Rattle.task_place.specs.declared.locals.Locals.{Locals}
 use Rattle.lane_runner.specs.declared.stop.Stop.TheVariants as stop
 use Rattle.lane_runner.specs.Children.{LogView}
 use Rattle.lane_runner.specs.Forking.{Answer, RanRegion}
