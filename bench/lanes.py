@@ -1,7 +1,8 @@
 #!/usr/bin/env python3
-"""Measures `run` on lanes: four at once against one that does as much, many phases, a mutex that all lanes want, and updates of one element.
+"""Measures `run` and `live` on lanes: four at once against one that does as much, many phases, many regions of one phase, a mutex that all lanes want,
+and updates of one element.
 
-usage: lanes.py, at the top of the repository, after `./sword` was built. Each figure is the least of several runs.
+usage: lanes.py, at the top of the repository, after `./sword` was built. The two run in turn, and each figure is the least of several runs.
 """
 import os
 import subprocess
@@ -21,6 +22,8 @@ KERNELS = [
     ("one lane, 4,000,000 stores", stores(1, 4_000_000)),
     ("four lanes, 1,000,000 stores each", stores(4, 4_000_000)),
     ("four lanes, 10,000 phases", "array a i64 1 main { parallel 4 { loop k in 0 .. 10000 { barrier } } }\n"),
+    ("1,000 regions of four lanes and one phase, nine stores a lane",
+     "array a i64 4 main { loop k in 0 .. 1000 { parallel 4 { loop j in 0 .. 9 { a[tid] = j } } } }\n"),
     ("64 lanes, 1,000 critical sections each",
      "array s i64 1 main { parallel 64 { loop k in 0 .. 1000 { critical { s[0] = s[0] + 1 } } } }\n"),
     ("64 lanes, 10,000 critical sections each", "array s i64 1 main { parallel 64 { loop k in 0 .. 10000 { critical { s[0] = s[0] + 1 } } } }\n"),
@@ -30,32 +33,36 @@ KERNELS = [
 ]
 
 
-def measured(place, number, kernel):
-    path = os.path.join(place, f"{number}.kernel")
+def once(command, path, folder):
+    """The seconds, the memory in MB, and what was printed."""
+    start = time.monotonic()
+    child = subprocess.Popen([PROGRAM, command, path, folder, "4096"], stdout=subprocess.PIPE)
+    text = child.stdout.read().decode().split("\n")
+    _, status, usage = os.wait4(child.pid, 0)
+    seconds = time.monotonic() - start
+    if os.waitstatus_to_exitcode(status) != 0:
+        sys.exit(f"{command} {path}: {text}")
+    subprocess.run(["rm", "-rf", folder], check=True)
+    return seconds, usage.ru_maxrss // 1024, text
+
+
+def measured(place, kernel):
+    path = os.path.join(place, "k.kernel")
     with open(path, "w") as out:
         out.write(kernel)
-    best = None
-    for run in range(RUNS):
-        words = [PROGRAM, "run", path, os.path.join(place, f"logs{number}-{run}"), "4096"]
-        start = time.monotonic()
-        child = subprocess.Popen(words, stdout=subprocess.PIPE)
-        text = child.stdout.read().decode().split("\n")
-        _, status, usage = os.wait4(child.pid, 0)
-        seconds = time.monotonic() - start
-        if os.waitstatus_to_exitcode(status) != 0:
-            sys.exit(f"{words}: {text}")
-        if best is None or seconds < best[0]:
-            best = (seconds, usage.ru_maxrss // 1024, text)
-        subprocess.run(["rm", "-rf", words[3]], check=True)
-    return best
+    found = {command: [] for command in ("run", "live")}
+    for _ in range(RUNS):
+        for command, times in found.items():
+            times.append(once(command, path, os.path.join(place, "logs")))
+    return {command: min(times) for command, times in found.items()}
 
 
 def main():
     with tempfile.TemporaryDirectory() as place:
-        for number, (what, kernel) in enumerate(KERNELS):
-            seconds, megabytes, text = measured(place, number, kernel)
-            print(f"{what}: {', '.join(text[:3])}: {seconds:.3f} s, {megabytes} MB at most")
-            sys.stdout.flush()
+        for what, kernel in KERNELS:
+            found = measured(place, kernel)
+            told = "; ".join(f"{command} {seconds:.3f} s, {megabytes} MB" for command, (seconds, megabytes, _) in found.items())
+            print(f"{what}: {', '.join(found['run'][2][:3])}: {told}", flush=True)
 
 
 main()
