@@ -1,3 +1,4 @@
+pub mod Ahead
 pub mod ByKind
 pub mod FirstOnce
 pub mod Forked

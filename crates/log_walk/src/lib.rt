@@ -8,6 +8,7 @@
 //! read faults rose, and want of memory.
 #![tactic(auto)]
 
+mod ahead;
 mod check;
 mod fault;
 mod last_step;
@@ -20,6 +21,8 @@ mod state;
 mod sweep;
 mod swept;
 mod task;
+mod taking;
+mod together;
 mod walking;
 
 pub use fault::WalkFault;
