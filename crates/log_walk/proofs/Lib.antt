@@ -1,4 +1,3 @@
-pub mod Ahead
 pub mod ByKind
 pub mod FirstOnce
 pub mod Forked
@@ -20,6 +19,7 @@ pub mod SpanOrder
 pub mod Steps
 pub mod SweepMoves
 pub mod Sweeping
+pub mod Taken
 pub mod TaskAt
 pub mod TaskReads
 pub mod WalkMoves

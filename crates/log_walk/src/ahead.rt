@@ -190,27 +190,29 @@ fn next_stage<F: Folder>(
 }
 
 /// Ends a log of which all records were gone over. It is let go where no memory is found.
-fn close(mut reading: Reading) -> Stage
+fn close(reading: Reading) -> Stage
     requires { reading.after < 2 ^ 32 - 2 }
     ensures { (format : Format) (told : Option Content) (dir : List ℕ) (rows : List Row) (window : View) → IsReading format told dir rows window reading
         → reading.after ≡ reading.source.task.records → IsStage format told dir rows window result }
 {
-    let closed = reading.walk.close(
-        &reading.source.task.path,
-        reading.after,
-        &mut reading.found,
-    );
-    if closed.is_err() {
+    let Reading {
+        source,
+        state,
+        mut walk,
+        after,
+        mut found,
+    } = reading;
+    if walk.close(&source.task.path, after, &mut found).is_err() {
         return Stage::Idle;
     }
     Stage::Passed(Ahead {
-        source: reading.source,
+        source,
         checked: Checked {
-            forks: reading.walk.forks,
-            barriers: reading.state.barriers,
-            segments: reading.state.segments,
+            forks: walk.forks,
+            barriers: state.barriers,
+            segments: state.segments,
         },
-        found: reading.found,
+        found,
     })
 }
 

@@ -11,6 +11,7 @@ ghost use Rattle.log_walk.specs.Stack.{IsStackAfter, WalksTask};
 ghost use Rattle.log_walk.specs.Walk.{TellsFirstBad, RefusesLogOf, Walked};
 
 use crate::ahead::Ahead;
+use crate::check::Checked;
 use crate::fault::WalkFault;
 use crate::log::walk_log;
 use crate::stack::Stack;
@@ -93,7 +94,7 @@ fn take(ahead: &mut Vec<Ahead>, rows: &[IndexRow], stack: &Stack) -> Option<Ahea
 }
 
 /// Goes past the next log, which was read before its turn and stands so.
-fn take_over(stack: &mut Stack, mut read: Ahead, found: &mut Vec<Segment>) -> Result<(), Memory>
+fn take_over(stack: &mut Stack, read: Ahead, found: &mut Vec<Segment>) -> Result<(), Memory>
     requires place { stack.old.place < 2 ^ 32 }
     requires fits { stack.old.segments + read.checked.segments ≤ max_segments }
     ensures walks { (format : Format) (told : Option Content) (dir : List ℕ) (rows : List Row) (trace : Trace) (row : Row) → AreRows rows → IsStackAfter format rows stack.old trace → slice_get rows stack.old.place ≡ Some row
@@ -101,14 +102,20 @@ fn take_over(stack: &mut Stack, mut read: Ahead, found: &mut Vec<Segment>) -> Re
         → OnOk result (WalksTask format told dir rows stack.new trace row found.old.items found.new.items) }
     ensures place { OnOk result (stack.new.place ≡ stack.old.place + 1) }
 {
-    found.append(&mut read.found)?;
-    let segments = stack.segments + read.checked.segments;
-    stack.push(
-        &read.source.task.path,
-        read.checked.forks,
-        read.checked.barriers,
+    let Ahead {
+        source,
+        checked,
+        found: mut more,
+    } = read;
+    let Checked {
+        forks,
+        barriers,
         segments,
-    )
+    } = checked;
+    found.append(&mut more)?;
+    let opened = stack.segments + segments;
+    stack.push(&source.task.path, forks, barriers, opened)?;
+    Ok(())
 }
 
 /// Goes over the log of the next row, where it is good, and adds its segments. It may have been read before its turn.

@@ -58,9 +58,9 @@ fn records_of(rows: &[IndexRow], lanes: &[usize]) -> (u64, u32)
     let mut all = 0u64;
     let mut most = 0;
     for place in lanes {
-        let records = rows[*place].records;
-        all = all.saturating_add(u64::from(records));
-        most = most.max(records);
+        let row = &rows[*place];
+        all = all.saturating_add(u64::from(row.records));
+        most = most.max(row.records);
     }
     (all, most)
 }

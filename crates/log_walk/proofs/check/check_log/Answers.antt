@@ -55,8 +55,8 @@ windows-preserved g c = record {
   later = omega (arith, c.in_ok-after.ensures.later, c.windows.invariant.later);
 }
 
-pub returns-then-not-is_at_end-clause-refused : goal.returns-then-not-is_at_end-clause-refused
-returns-then-not-is_at_end-clause-refused g c = λ x told.
+pub returns-then-not-branch-2-clause-refused : goal.returns-then-not-branch-2-clause-refused
+returns-then-not-branch-2-clause-refused g c = λ x told.
     let task = log_task_of c.args.task.now in
     let file : List ℕ = file_of x c.args.name.now in
     let known = c.windows.invariant.so in
