@@ -1,6 +1,6 @@
 -- A log that was read before its turn.
-use Rattle.std.proofs.Common.{◌≡◌, ◌∙◌, ℕ, ◌+◌, ◌<◌, ◌≤◌, false, List, [], ◌∷◌, ◌++◌, length, take, drop, Option, Some, refl, sym, ap, subst, inl, inr, arith, get_or}
-use Rattle.std.specs.Prelude.{slice_get, string_bytes}
+use Rattle.std.proofs.Common.{◌≡◌, ◌∙◌, ℕ, ◌+◌, ◌*◌, ◌<◌, ◌≤◌, false, List, [], ◌∷◌, ◌++◌, length, take, drop, Option, Some, None, refl, sym, ap, subst, inl, inr, arith, get_or}
+use Rattle.std.specs.Prelude.{slice_get, string_bytes, option_map, unwrap_or}
 use Rattle.std.proofs.lemmas.Bool.{cases_order}
 use Rattle.std.proofs.lemmas.List.{length-take-le, take_all}
 use Rattle.std.proofs.lemmas.List.Sums.{count_by_more_no}
@@ -14,14 +14,16 @@ use Rattle.log_format.specs.declared.record.Kind.TheVariants.{End}
 use Rattle.log_format.specs.declared.record.Record.{Record}
 use Rattle.race_model.specs.declared.why.RecordWhy.{RecordWhy}
 use Rattle.race_model.specs.declared.why.RecordWhy.TheVariants as log
-use Rattle.race_model.specs.IndexFault.{AreRows}
+use Rattle.race_model.specs.IndexFault.{AreRows, IsStep}
 use Rattle.race_model.specs.Label.{Triple}
 use Rattle.race_model.specs.LogFault.{LogTask, Breaks, ListsSpans, max_segments}
 use Rattle.race_model.specs.Row.{Row}
 use Rattle.race_model.specs.Trace.{Trace, barrier_count, is_barrier_kind}
 use Rattle.race_laws.proofs.LogFaults.{with_team}
 use Rattle.log_segment.specs.declared.segment.Segment.{Segment}
-use Rattle.log_segment.specs.Walking.{WalksLog}
+use Rattle.span_label.specs.Levels.{own_level}
+use Rattle.log_segment.specs.Walking.{IsOwnAfter, WalksLog}
+use Rattle.log_segment.proofs.OwnLevel.{own_last}
 use Rattle.log_walk.specs.Ahead.{Agrees, HasPassed, IsAhead}
 use Rattle.log_walk.specs.Check.{ChecksLog, IsGoodLog, KeepsLogRules}
 use Rattle.log_walk.specs.LogSoFar.{window_at}
@@ -144,3 +146,20 @@ kept told dir rows window read passed ended = record {
     walks = passed.walks;
   };
 }
+
+-- the first label of a lane, by that of its fork
+pub lane_own : (fork label : List Triple) (step : Step) → IsStep step → label ≡ fork ++ record { offset = step.lane; span = step.span; barrier = 0 } ∷ [] → IsOwnAfter label 1
+lane_own fork label step is_step e x found =
+    let last : Triple = record { offset = step.lane; span = step.span; barrier = 0 } in
+    let same : last ≡ x = same_Some last x (sym (own_last fork last) ∙ (ap (λ (l : List Triple). own_level l) (sym e) ∙ found)) in
+    let few : step.span ≤ 64 = is_step.span.limit in
+    let in_team : step.lane < step.span = is_step.lane in
+    subst (λ (t : Triple). (t.span ≤ 64) × (t.offset ≤ 64 * 1) × (t.barrier ≤ 1)) same (omega arith, omega arith, omega arith)
+
+-- a file that has a length is held
+pub held_there : (content : Content) (name other : List ℕ) (size : Option ℕ) → size ≡ option_map length (content.held name) → (size ≡ None → ⊥) → name ≡ other → content.held other ≡ Some (file_of content name)
+held_there content name other size is some same = from (content.held name) refl
+  where
+    from : (o : Option (List ℕ)) → content.held name ≡ o → content.held other ≡ Some (file_of content name)
+    from None none = absurd (some (is ∙ ap (λ (f : Option (List ℕ)). option_map length f) none))
+    from (Some bytes) there = ap (λ (n : List ℕ). content.held n) (sym same) ∙ there ∙ ap (λ (f : Option (List ℕ)). Some (unwrap_or f [])) (sym there)

@@ -202,18 +202,18 @@ fn close(reading: Reading) -> Stage
         after,
         mut found,
     } = reading;
-    if walk.close(&source.task.path, after, &mut found).is_err() {
-        return Stage::Idle;
+    match walk.close(&source.task.path, after, &mut found) {
+        Ok(()) => Stage::Passed(Ahead {
+            source,
+            checked: Checked {
+                forks: walk.forks,
+                barriers: state.barriers,
+                segments: state.segments,
+            },
+            found,
+        }),
+        Err(_) => Stage::Idle,
     }
-    Stage::Passed(Ahead {
-        source,
-        checked: Checked {
-            forks: walk.forks,
-            barriers: state.barriers,
-            segments: state.segments,
-        },
-        found,
-    })
 }
 
 /// Goes over the records of a log that are ahead. It is let go where one of them breaks a rule, or isn't whole.

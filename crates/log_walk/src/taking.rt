@@ -57,9 +57,13 @@ fn agrees(rows: &[IndexRow], stack: &Stack, read: &Ahead) -> bool
     let row = &rows[stack.place];
     let label = first_label(&stack.forks, &row.path);
     let due = stack.due_barriers(&row.path);
-    are_same(&label, &read.source.label)
-        && are_due(due, read.checked.barriers)
-        && have_room(stack.segments, read.checked.segments)
+    if !are_same(&label, &read.source.label) {
+        return false;
+    }
+    if !are_due(due, read.checked.barriers) {
+        return false;
+    }
+    have_room(stack.segments, read.checked.segments)
 }
 
 /// Where among these the log of this row is.

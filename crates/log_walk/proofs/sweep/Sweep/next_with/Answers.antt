@@ -28,7 +28,7 @@ returns-then-self-len-clause-all g c = λ format dir trace swept none.
     )
 
 pub walk_region-requires-clause-read : goal.walk_region-requires-clause-read
-walk_region-requires-clause-read g c =
+walk_region-requires-clause-read g c κs within =
     let told = (g.F.Folder.state c.args.folder.now).content in
     let inside = subst (λ (s : Sweep). All (IsAhead s.format told s.dir s.rows) c.args.ahead.items) (sym c.self.view_is) c.requires.read in
     subst (λ (rs : List Row). All (IsAhead c.self.inside.format told c.deref.result.now rs) c.args.ahead.items) (sym c.deref-2.ensures.value)
