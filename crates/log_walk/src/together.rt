@@ -163,6 +163,7 @@ fn fill_all<F: Folder>(
     sources: &mut Vec<Source>,
     ahead: &mut Vec<Ahead>,
 ) -> Result<(), Trouble>
+    ensures count { OnOk result (length slots.new ≡ length slots.old) }
     ensures fills { (dir : List ℕ) (rows : List Row) → All (IsSlot format (F.state folder.old).content dir rows) slots.old
         → All (IsSource (F.state folder.old).content dir rows) sources.old.items
         → OnOk result (All (IsSlot format (F.state folder.old).content dir rows) slots.new) }
@@ -192,6 +193,7 @@ fn go_all<R: Threads + Sync>(
 )
     requires workers { 1 ≤ workers }
     requires so { (told : Option Content) × (dir : List ℕ) × (rows : List Row) × All (IsSlot format told dir rows) slots.old }
+    ensures count { length slots.new ≡ length slots.old }
     ensures goes { (told : Option Content) (dir : List ℕ) (rows : List Row) → All (IsSlot format told dir rows) slots.old → All (IsSlot format told dir rows) slots.new }
 {
     thread::for_each_mut(
@@ -218,12 +220,12 @@ fn read_all<R: Threads + Sync, F: Folder>(
     format: Format,
     folder: &mut F,
     mut sources: Vec<Source>,
-    mut slots: Vec<Slot>,
+    slots: &mut [Slot],
     workers: usize,
 ) -> Result<Vec<Ahead>, Trouble>
     requires workers { 1 ≤ workers }
-    requires so { (dir : List ℕ) × (rows : List Row) × All (IsSlot format (F.state folder.old).content dir rows) slots.items × All (IsSource (F.state folder.old).content dir rows) sources.items }
-    ensures ahead { (dir : List ℕ) (rows : List Row) → All (IsSlot format (F.state folder.old).content dir rows) slots.items → All (IsSource (F.state folder.old).content dir rows) sources.items
+    requires so { (dir : List ℕ) × (rows : List Row) × All (IsSlot format (F.state folder.old).content dir rows) slots.old × All (IsSource (F.state folder.old).content dir rows) sources.items }
+    ensures ahead { (dir : List ℕ) (rows : List Row) → All (IsSlot format (F.state folder.old).content dir rows) slots.old → All (IsSource (F.state folder.old).content dir rows) sources.items
         → IfOk result (λ ahead. All (IsAhead format (F.state folder.old).content dir rows) ahead.items) }
 
     ensures same { F.state folder.new ≡ F.state folder.old }
@@ -231,11 +233,11 @@ fn read_all<R: Threads + Sync, F: Folder>(
 {
     let mut ahead = Vec::new(alloc);
     'rounds: for _ in 0..u64::MAX {
-        fill_all(alloc, format, folder, &mut slots, &mut sources, &mut ahead)?;
-        if are_idle(&slots) {
+        fill_all(alloc, format, folder, slots, &mut sources, &mut ahead)?;
+        if are_idle(slots) {
             return Ok(ahead);
         }
-        go_all(rt, alloc, format, &mut slots, workers);
+        go_all(rt, alloc, format, slots, workers);
     }
     Ok(ahead)
 }
@@ -269,7 +271,7 @@ pub fn read_ahead<R: Threads + Sync, F: Folder>(
     if count < 2 || records < FEW {
         return Ok(Vec::new(alloc));
     }
-    let slots = slots_of(alloc, count, MOST.min(most as usize))?;
+    let mut slots = slots_of(alloc, count, MOST.min(most as usize))?;
     let sources = sources_of(alloc, folder, dir, rows, &lanes, fork)?;
-    read_all(rt, alloc, format, folder, sources, slots, workers)
+    read_all(rt, alloc, format, folder, sources, &mut slots, workers)
 }

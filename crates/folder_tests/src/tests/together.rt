@@ -248,8 +248,9 @@ fn a_read_that_fails_beside_others_is_told(rt: HostRuntime) -> Result<(), Fail> 
         writes: 12_000,
         ..PLAIN
     };
-    // The third lane's log takes two windows.
+    // The size of the index and its nine reads; for the root, three lanes and the two inner ones a size and two reads, and for the
+    // third lane, whose log takes two windows, one read more.
     let calls = first_untold(&rt, rt.alloc(), &[PLAIN, forking(PLAIN), long, PLAIN], 4)?;
-    assert_eq!(rt; calls, 40);
+    assert_eq!(rt; calls, 33);
     Ok(())
 }

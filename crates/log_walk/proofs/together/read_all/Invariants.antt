@@ -5,8 +5,8 @@ use Rattle.log_walk.proofs.together.read_all.Given as goal
 
 abbrev pub invariant-rounds : goal.invariant-rounds
 invariant-rounds g l = record {
-  so : (dir : List ℕ) (rows : List Row) → All (IsSlot l.format (g.F.Folder.state l.fn.folder).content dir rows) l.fn.slots.items → All (IsSource (g.F.Folder.state l.fn.folder).content dir rows) l.fn.sources.items
-      → All (IsSlot l.format (g.F.Folder.state l.fn.folder).content dir rows) l.slots.items × All (IsSource (g.F.Folder.state l.fn.folder).content dir rows) l.sources.items × All (IsAhead l.format (g.F.Folder.state l.fn.folder).content dir rows) l.ahead.items;
+  so : (dir : List ℕ) (rows : List Row) → All (IsSlot l.format (g.F.Folder.state l.fn.folder).content dir rows) l.fn.slots → All (IsSource (g.F.Folder.state l.fn.folder).content dir rows) l.fn.sources.items
+      → All (IsSlot l.format (g.F.Folder.state l.fn.folder).content dir rows) l.slots × All (IsSource (g.F.Folder.state l.fn.folder).content dir rows) l.sources.items × All (IsAhead l.format (g.F.Folder.state l.fn.folder).content dir rows) l.ahead.items;
   same : g.F.Folder.state l.folder ≡ g.F.Folder.state l.fn.folder;
   later : g.F.Folder.read_faults l.fn.folder ≤ g.F.Folder.read_faults l.folder;
 }
