@@ -185,13 +185,6 @@ const LATE: Lane = Lane {
     ..PLAIN
 };
 
-// A lane with a segment for each of its writes.
-const MANY: Lane = Lane {
-    writes: 20_000,
-    barriers: 20_000,
-    last: (2, 8, 9, 8192, 0),
-};
-
 #[test]
 fn the_first_bad_place_is_told_by_each_number_of_workers(rt: HostRuntime) -> Result<(), Fail> {
     let table = [
@@ -211,15 +204,26 @@ fn the_first_bad_place_is_told_by_each_number_of_workers(rt: HostRuntime) -> Res
             [LATE, forking(PLAIN), PLAIN, PLAIN],
             Told::Record(2, 5_005, RecordWhy::BarrierCount),
         ),
-        (
-            [MANY, forking(MANY), MANY, MANY],
-            Told::TooMany(4, 11_065),
-        ),
     ];
     for (lanes, due) in &table {
         let mut folder = team(rt.alloc(), lanes)?;
         assert!(rt; is_told(&rt, rt.alloc(), &mut folder, *due), "{lanes:?}");
     }
+    Ok(())
+}
+
+// A lane with a segment for each of its writes.
+const MANY: Lane = Lane {
+    writes: 17_000,
+    barriers: 17_000,
+    last: (2, 8, 9, 8192, 0),
+};
+
+#[test]
+fn a_segment_too_many_beside_others_is_told(rt: HostRuntime) -> Result<(), Fail> {
+    // The lanes before the last have 17,001 segments, 17,000 and 17,001, and the inner ones two.
+    let mut folder = team(rt.alloc(), &[MANY, forking(MANY), MANY, MANY])?;
+    assert!(rt; told(by(&rt, rt.alloc(), &mut folder, 4)) == Told::TooMany(4, 29_065));
     Ok(())
 }
 

@@ -10,5 +10,5 @@ returns g c = record {
       (let inside : k < length c.args.slots.now = omega (arith, within, c.for_each_mut.auto.s) in
       let changed = (c.for_each_mut.ensures k d inside).1 in
       subst (λ (s : Slot). IsSlot c.args.format told dir rows s) changed.left
-      (changed.call.goes told dir rows (subst (λ (s : Slot). IsSlot c.args.format told dir rows s) (sym changed.argument_is) (all k d inside))));
+      (changed.call told dir rows (subst (λ (s : Slot). IsSlot c.args.format told dir rows s) (sym changed.argument_is) (all k d inside))));
 }

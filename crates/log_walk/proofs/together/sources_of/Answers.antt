@@ -16,7 +16,7 @@ loop-place-preserved g c =
         | in-Some+in_ok-push w ↦
             subst P (sym (ap (λ (v : Vec Source Global). v.items) w.sources-is ∙ w.in_ok-push.ensures.items))
             (All-push (IsSource (g.F.Folder.state c.args.folder.now).content c.args.dir.now c.args.rows.now) c.loop-place.sources.items w.in-Some.source c.loop-place.invariant.so
-            (subst (λ (s : FolderState). IsSource s.content c.args.dir.now c.args.rows.now w.in-Some.source) c.loop-place.invariant.same w.in-Some.ensures.source))
+            (subst (λ (s : FolderState). IsSource s.content c.args.dir.now c.args.rows.now w.in-Some.source) c.loop-place.invariant.same (rw w.in-Some.is at c.in_ok-source.ensures.source)))
         | in_default w ↦ subst P (sym (ap (λ (v : Vec Source Global). v.items) w.sources-is)) c.loop-place.invariant.so
       ];
       same = c.source.ensures.same ∙ c.loop-place.invariant.same;
