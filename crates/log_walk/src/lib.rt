@@ -20,8 +20,8 @@ mod stack;
 mod state;
 mod sweep;
 mod swept;
-mod task;
 mod taking;
+mod task;
 mod together;
 mod walking;
 

@@ -117,7 +117,11 @@ fn is_same(one: &Segment, other: &Segment) -> bool {
 }
 
 fn are_same(some: &[Segment], others: &[Segment]) -> bool {
-    some.len() == others.len() && some.iter().zip(others).all(|(one, other)| is_same(one, other))
+    some.len() == others.len()
+        && some
+            .iter()
+            .zip(others)
+            .all(|(one, other)| is_same(one, other))
 }
 
 fn told(answer: Result<Option<Vec<Segment>>, WalkFault>) -> Told {
@@ -128,12 +132,7 @@ fn told(answer: Result<Option<Vec<Segment>>, WalkFault>) -> Told {
 }
 
 // Whether each number of workers tells this of the folder, as it is told of one log after another.
-fn is_told<R: Threads + Sync>(
-    rt: &R,
-    alloc: Global,
-    folder: &mut MemFolder,
-    due: Told,
-) -> bool {
+fn is_told<R: Threads + Sync>(rt: &R, alloc: Global, folder: &mut MemFolder, due: Told) -> bool {
     for workers in [1, 2, 4, 64] {
         if told(by(rt, alloc, folder, workers)) != due {
             return false;

@@ -1,4 +1,4 @@
-use Rattle.std.proofs.Common.{◌≡◌, ◌∙◌, ◌+◌, ◌*◌, ℕ, List, [], sym, subst, ap}
+use Rattle.std.proofs.Common.{◌∙◌, ◌+◌, ◌*◌, ℕ, List, [], sym, subst, ap}
 use Rattle.std.specs.Prelude.{string_bytes}
 use Rattle.sw_base.specs.Window.{file_of}
 use Rattle.race_model.specs.Label.{Triple}

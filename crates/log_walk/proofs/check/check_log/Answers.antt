@@ -1,4 +1,4 @@
-use Rattle.std.proofs.Common.{rules, ◌≡◌, refl, sym, ap, subst, ◌∙◌, arith, ◌<◌, ◌+◌, ◌*◌, ◌++◌, List, [], Option, ℕ, length, take, drop}
+use Rattle.std.proofs.Common.{rules, ◌≡◌, sym, ap, subst, ◌∙◌, arith, ◌<◌, ◌+◌, ◌*◌, ◌++◌, List, [], ℕ, length, drop}
 use Rattle.std.proofs.lemmas.Result.{err_from_is_err_and}
 use Rattle.sw_base.specs.Environment.{FolderState}
 use Rattle.sw_base.specs.Window.{file_of}

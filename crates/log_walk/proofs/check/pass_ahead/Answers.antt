@@ -1,10 +1,6 @@
-use Rattle.std.proofs.Common.{◌≡◌, ◌∙◌, ◌-◌, ◌*◌, List, ℕ, drop, sym, ap, subst}
-use Rattle.std.specs.Prelude.{Option}
+use Rattle.std.proofs.Common.{◌∙◌, ◌-◌, ◌*◌, List, ℕ, drop, sym, ap, subst}
 use Rattle.std.proofs.lemmas.Result.{err_from_is_err_and}
-use Rattle.sw_base.specs.Environment.{Content}
 use Rattle.sw_base.specs.Window.{Window}
-use Rattle.race_model.specs.Label.{Triple}
-use Rattle.log_segment.specs.declared.segment.Segment.{Segment}
 use Rattle.log_walk.specs.LogSoFar.{LogSoFar}
 use Rattle.log_walk.specs.Rules.{log_task_of}
 use Rattle.log_walk.proofs.check.pass_ahead.Goals as goal

@@ -1,5 +1,4 @@
-use Rattle.std.proofs.Common.{◌≡◌, [], Some, get_or}
-use Rattle.std.specs.Prelude.{slice_get}
+use Rattle.std.proofs.Common.{[], get_or}
 use Rattle.std.proofs.lemmas.Option.{slice_get-get_or}
 use Rattle.race_model.specs.Row.{Row}
 use Rattle.log_walk.proofs.taking.walk_next.Goals as goal

@@ -1,6 +1,6 @@
-use Rattle.std.proofs.Common.{◌≡◌, ◌∙◌, ◌<◌, All, List, ℕ, length, sym, ap, subst, arith, rules, get_or}
+use Rattle.std.proofs.Common.{◌∙◌, ◌<◌, All, length, sym, subst, arith, get_or}
 use Rattle.std.proofs.lemmas.List.{length-set}
-use Rattle.std.proofs.lemmas.List.Elements.{All-get_or, All-set}
+use Rattle.std.proofs.lemmas.List.Elements.{All-set}
 use Rattle.sw_base.specs.Environment.{FolderState}
 use Rattle.log_walk.specs.Ahead.{IsAhead, IsSlot, IsSource}
 use Rattle.log_walk.proofs.together.fill_all.Goals as goal

@@ -7,8 +7,7 @@ use Rattle.log_walk.proofs.together.read_ahead.Goals as goal
 
 pub read_all-requires-clause-so : goal.read_all-requires-clause-so
 read_all-requires-clause-so g c κs within =
-    let told = (g.F.Folder.state c.sources_of.new.folder).content in
-    (
+    let told = (g.F.Folder.state c.sources_of.new.folder).content in (
       c.args.dir.now,
       c.args.rows.now,
       subst (λ (xs : List Slot). All (IsSlot c.args.format told c.args.dir.now c.args.rows.now) xs) (sym c.deref_mut.ensures.value) (c.in_ok-slots.ensures c.args.format told c.args.dir.now c.args.rows.now),

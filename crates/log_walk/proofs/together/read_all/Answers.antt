@@ -17,8 +17,7 @@ go_all-requires-clause-so g c κs within =
     let inv = c.rounds.invariant in
     let dir = c.requires.so.0 in
     let rows = c.requires.so.1 in
-    let so = inv.so dir rows c.requires.so.2 c.requires.so.3 in
-    (
+    let so = inv.so dir rows c.requires.so.2 c.requires.so.3 in (
       (g.F.Folder.state c.args.folder.now).content,
       dir,
       rows,

@@ -1,9 +1,8 @@
 use Rattle.std.proofs.Common.{◌≡◌, ◌∙◌, ◌++◌, ◌∷◌, [], ℕ, All, List, Some, length, true, false, sym, subst, ap, refl}
-use Rattle.std.specs.Prelude.{slice_get, string_bytes, option_map, is_some, not, Option}
+use Rattle.std.specs.Prelude.{slice_get, string_bytes, option_map, is_some, not}
 use Rattle.std.proofs.lemmas.List.Elements.{All-contains, Contains-push}
 use Rattle.sw_base.specs.declared.path.Step.{Step}
 use Rattle.sw_base.specs.Names.{log_name}
-use Rattle.sw_base.specs.Window.{file_of}
 use Rattle.race_model.specs.Row.{Row}
 use Rattle.race_model.specs.IndexFault.{IsRow, IsStep}
 use Rattle.log_walk.proofs.Forked.{row_at}

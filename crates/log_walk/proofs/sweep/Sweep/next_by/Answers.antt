@@ -1,6 +1,6 @@
-use Rattle.std.proofs.Common.{◌≡◌, ◌⊎◌, inl, inr, ◌-◌, ◌<◌, All, List, ℕ, Some, None, length, string_bytes, sym, ap, subst, arith}
+use Rattle.std.proofs.Common.{◌≡◌, All, Some, None, string_bytes, sym, ap, subst}
 use Rattle.std.specs.Prelude.{IfOk, IfErr, IfSome}
-use Rattle.sw_base.specs.Environment.{FolderState, Rose, WhereTold}
+use Rattle.sw_base.specs.Environment.{FolderState, WhereTold}
 use Rattle.log_segment.specs.Regions.{IsUnderRegion}
 use Rattle.log_walk.specs.Ahead.{IsAhead}
 use Rattle.log_walk.specs.Sweep.{GivesRegion, HasRefused, HasSwept, HasSweptAll, regions_given}
