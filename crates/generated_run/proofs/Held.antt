@@ -9,7 +9,8 @@ use Rattle.sw_base.specs.Environment.{Content}
 use Rattle.sw_base.specs.Names.{index_name, log_name}
 use Rattle.sw_base.proofs.AfterPut.{with_file-elsewhere}
 use Rattle.sw_base.proofs.NameLaws.{HasPlace, log_name-not_index, place}
-use Rattle.log_format.specs.Table.{AllowsKind, HasAddress, HasNothingElse, HasSize, IsTabled, PassesTable, RecordFits, SpanIsTabled}
+use Rattle.log_format.specs.Format.{AllowsKind}
+use Rattle.log_format.specs.Table.{HasAddress, HasNothingElse, HasSize, IsTabled, PassesTable, RecordFits, SpanIsTabled}
 use Rattle.log_format.specs.declared.record.Record.{Record}
 use Rattle.log_format.specs.declared.record.Why.{Why}
 use Rattle.log_format.specs.declared.record.Why.TheVariants as why
