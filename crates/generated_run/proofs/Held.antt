@@ -9,7 +9,8 @@ use Rattle.sw_base.specs.Environment.{Content}
 use Rattle.sw_base.specs.Names.{index_name, log_name}
 use Rattle.sw_base.proofs.AfterPut.{with_file-elsewhere}
 use Rattle.sw_base.proofs.NameLaws.{HasPlace, log_name-not_index, place}
-use Rattle.log_format.specs.Table.{IsTabled, PassesTable, RecordFits}
+use Rattle.log_format.specs.Format.{AllowsKind}
+use Rattle.log_format.specs.Table.{HasAddress, HasNothingElse, HasSize, IsTabled, PassesTable, RecordFits, SpanIsTabled}
 use Rattle.log_format.specs.declared.record.Record.{Record}
 use Rattle.log_format.specs.declared.record.Why.{Why}
 use Rattle.log_format.specs.declared.record.Why.TheVariants as why
@@ -33,80 +34,41 @@ half_below k within = grind arith
 element_below : (k lane : ℕ) → k < 100000 → lane < 8 → element k lane < 2 ^ 40
 element_below k lane within few = let half = half_below k within in omega (arith, half)
 
+-- a record whose fields pass each test
+is_tabled : (r : Record) → RecordFits r → AllowsKind FORMAT r.kind → HasSize r.kind r.size → 1 ≤ r.line → HasAddress r.kind r → SpanIsTabled r.kind r → HasNothingElse r.kind r → IsTabled FORMAT r
+is_tabled r fits kind size line address span nothing_else = record { fits = fits; passes = passes } where
+  passes : (w : Why) → PassesTable FORMAT r w
+  passes why.Kind = kind
+  passes why.Size = size
+  passes why.LineZero = line
+  passes why.Address = address
+  passes why.Span = span
+  passes why.Reserved = nothing_else
+
 write_tabled : (lane k : ℕ) → lane < 8 → k < 100000 → IsTabled FORMAT (write_of lane k)
-write_tabled lane k few within = record { fits = fits; passes = passes } where
-  below : element k lane < 2 ^ 40
-  below = element_below k lane within few
-
-  fits : RecordFits (write_of lane k)
-  fits = record { size = omega arith; site = omega arith; line = omega arith; addr = omega (arith, below); value = omega arith }
-
-  passes : (w : Why) → PassesTable FORMAT (write_of lane k) w
-  passes why.Kind = omega arith
-  passes why.Size = inr (inr (inr refl))
-  passes why.LineZero = omega arith
-  passes why.Address = omega (arith, below)
-  passes why.Span = tt
-  passes why.Reserved = tt
+write_tabled lane k few within =
+    let below = element_below k lane within few in
+    is_tabled (write_of lane k) (record { size = omega arith; site = omega arith; line = omega arith; addr = omega (arith, below); value = omega arith }) (omega arith) (inr (inr (inr refl))) (omega arith) (omega (arith, below)) tt tt
 
 read_tabled : (lane k : ℕ) → lane < 8 → k < 100000 → IsTabled FORMAT (read_of lane k)
-read_tabled lane k few within = record { fits = fits; passes = passes } where
-  below : element k ((lane + 1) % 8) < 2 ^ 40
-  below = element_below k ((lane + 1) % 8) within (omega arith)
-
-  fits : RecordFits (read_of lane k)
-  fits = record { size = omega arith; site = omega arith; line = omega arith; addr = omega (arith, below); value = omega arith }
-
-  passes : (w : Why) → PassesTable FORMAT (read_of lane k) w
-  passes why.Kind = omega arith
-  passes why.Size = inr (inr (inr refl))
-  passes why.LineZero = omega arith
-  passes why.Address = omega (arith, below)
-  passes why.Span = tt
-  passes why.Reserved = tt
+read_tabled lane k few within =
+    let below = element_below k ((lane + 1) % 8) within (omega arith) in
+    is_tabled (read_of lane k) (record { size = omega arith; site = omega arith; line = omega arith; addr = omega (arith, below); value = omega arith }) (omega arith) (inr (inr (inr refl))) (omega arith) (omega (arith, below)) tt tt
 
 barrier_tabled : IsTabled FORMAT (bare_record Barrier 20)
-barrier_tabled = record { fits = record { size = omega arith; site = omega arith; line = omega arith; addr = omega arith; value = omega arith }; passes = passes } where
-  passes : (w : Why) → PassesTable FORMAT (bare_record Barrier 20) w
-  passes why.Kind = omega arith
-  passes why.Size = refl
-  passes why.LineZero = omega arith
-  passes why.Address = tt
-  passes why.Span = tt
-  passes why.Reserved = (refl, refl, refl)
+barrier_tabled = is_tabled (bare_record Barrier 20) (record { size = omega arith; site = omega arith; line = omega arith; addr = omega arith; value = omega arith }) (omega arith) refl (omega arith) tt tt (refl, refl, refl)
 
 end_tabled : IsTabled FORMAT (bare_record End 50)
-end_tabled = record { fits = record { size = omega arith; site = omega arith; line = omega arith; addr = omega arith; value = omega arith }; passes = passes } where
-  passes : (w : Why) → PassesTable FORMAT (bare_record End 50) w
-  passes why.Kind = omega arith
-  passes why.Size = refl
-  passes why.LineZero = omega arith
-  passes why.Address = tt
-  passes why.Span = tt
-  passes why.Reserved = (refl, refl, refl)
+end_tabled = is_tabled (bare_record End 50) (record { size = omega arith; site = omega arith; line = omega arith; addr = omega arith; value = omega arith }) (omega arith) refl (omega arith) tt tt (refl, refl, refl)
 
 late_tabled : IsTabled FORMAT late_write
-late_tabled = record { fits = record { size = omega arith; site = omega arith; line = omega arith; addr = omega arith; value = omega arith }; passes = passes } where
-  passes : (w : Why) → PassesTable FORMAT late_write w
-  passes why.Kind = omega arith
-  passes why.Size = inr (inr (inl refl))
-  passes why.LineZero = omega arith
-  passes why.Address = omega arith
-  passes why.Span = tt
-  passes why.Reserved = tt
+late_tabled = is_tabled late_write (record { size = omega arith; site = omega arith; line = omega arith; addr = omega arith; value = omega arith }) (omega arith) (inr (inr (inl refl))) (omega arith) (omega arith) tt tt
 
 abbrev region_record : Record
 region_record = get_or root_records 0 late_write
 
 region_tabled : IsTabled FORMAT region_record
-region_tabled = record { fits = record { size = omega arith; site = omega arith; line = omega arith; addr = omega arith; value = omega arith }; passes = passes } where
-  passes : (w : Why) → PassesTable FORMAT region_record w
-  passes why.Kind = omega arith
-  passes why.Size = refl
-  passes why.LineZero = omega arith
-  passes why.Address = tt
-  passes why.Span = (omega arith, omega arith)
-  passes why.Reserved = (refl, refl)
+region_tabled = is_tabled region_record (record { size = omega arith; site = omega arith; line = omega arith; addr = omega arith; value = omega arith }) (omega arith) refl (omega arith) tt (omega arith, omega arith) (refl, refl)
 
 root_tabled : All (IsTabled FORMAT) root_records
 root_tabled = All-cons (IsTabled FORMAT) region_record (bare_record End 50 ∷ []) region_tabled (All-cons (IsTabled FORMAT) (bare_record End 50) [] end_tabled (All-nil (IsTabled FORMAT)))
