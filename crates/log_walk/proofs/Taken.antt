@@ -24,7 +24,7 @@ use Rattle.log_segment.specs.declared.segment.Segment.{Segment}
 use Rattle.span_label.specs.Levels.{own_level}
 use Rattle.log_segment.specs.Walking.{IsOwnAfter, WalksLog}
 use Rattle.log_segment.proofs.OwnLevel.{own_last}
-use Rattle.log_walk.specs.Ahead.{Agrees, HasPassed, IsAhead}
+use Rattle.log_walk.specs.Ahead.{StandsAsRead, IsGoneOver, IsAhead}
 use Rattle.log_walk.specs.Check.{ChecksLog, IsGoodLog, KeepsLogRules}
 use Rattle.log_walk.specs.LogSoFar.{window_at}
 use Rattle.log_walk.specs.Rules.{log_task_of}
@@ -92,7 +92,7 @@ counted_on opened checked = record { forks = checked.forks; barriers = checked.b
 
 -- the next log, where it stands as it was read
 pub ahead_walks : {format : Format} (told : Option Content) (dir : List ℕ) (rows : List Row) (stack now : Stack) (trace : Trace) (row : Row) (read : Ahead) (old new : List Segment) → AreRows rows → IsStackAfter format rows stack trace
-    → slice_get rows stack.place ≡ Some row → IsAhead format told dir rows read → read.source.place ≡ stack.place → Agrees trace row stack.segments read → new ≡ old ++ read.found.items
+    → slice_get rows stack.place ≡ Some row → IsAhead format told dir rows read → read.source.place ≡ stack.place → StandsAsRead trace row stack.segments read → new ≡ old ++ read.found.items
     → Pushed read.source.task.path stack now (counted_on stack.segments read.checked) read.checked.barriers → WalksTask format told dir rows now trace row old new
 ahead_walks {format} told dir rows stack now trace row read old new good stands found is place agrees gains pushed =
     subst (λ (xs : List Segment). WalksTask format told dir rows now trace row old xs) (sym gains)
@@ -130,7 +130,7 @@ ahead_walks {format} told dir rows stack now trace row read old new good stands 
         }
 
 -- a log of which no byte is left is good
-pub kept : {format : Format} (told : Option Content) (dir : List ℕ) (rows : List Row) (window : Window) (read : Ahead) → HasPassed format told dir rows window read
+pub kept : {format : Format} (told : Option Content) (dir : List ℕ) (rows : List Row) (window : Window) (read : Ahead) → IsGoneOver format told dir rows window read
     → WhereTold told (λ c. Shows window (file_of c (string_bytes read.source.name)) → drop window.place (file_of c (string_bytes read.source.name)) ≡ []) → IsAhead format told dir rows read
 kept told dir rows window read passed ended = record {
   source = passed.source;

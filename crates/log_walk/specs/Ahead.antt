@@ -44,7 +44,7 @@ pub record IsReading (format : Format) (told : Option Content) (dir : List ℕ) 
   pub so : LogSoFar format told (string_bytes reading.source.name) (log_task_of reading.source.task) 0 reading.source.label reading.state reading.walk window.ahead [] reading.found.items reading.after
 
 -- all records of the log were gone over, and the window is past them, whatever follows
-pub record HasPassed (format : Format) (told : Option Content) (dir : List ℕ) (rows : List Row) (window : Window) (read : Ahead) : Type 0 where
+pub record IsGoneOver (format : Format) (told : Option Content) (dir : List ℕ) (rows : List Row) (window : Window) (read : Ahead) : Type 0 where
   pub source : IsSource told dir rows read.source
   pub records : List Record
   pub good : IsGoodLog format (log_bytes (log_header format) records) (log_task_of read.source.task) 0 records read.checked.segments
@@ -62,13 +62,13 @@ pub record IsAhead (format : Format) (told : Option Content) (dir : List ℕ) (r
 abbrev pub IsStage : Format → Option Content → List ℕ → List Row → Window → Stage → Type 0
 IsStage format told dir rows window Idle = Unit {0}
 IsStage format told dir rows window (Going reading) = IsReading format told dir rows window reading
-IsStage format told dir rows window (Passed read) = HasPassed format told dir rows window read
+IsStage format told dir rows window (Passed read) = IsGoneOver format told dir rows window read
 
 abbrev pub IsSlot : Format → Option Content → List ℕ → List Row → Slot → Type 0
 IsSlot format told dir rows slot = IsStage format told dir rows slot.window slot.stage
 
 -- the log stands as it was read: it has this label, as many barriers as its team, and not too many segments
-pub record Agrees (trace : Trace) (row : Row) (opened : ℕ) (read : Ahead) : Type 0 where
+pub record StandsAsRead (trace : Trace) (row : Row) (opened : ℕ) (read : Ahead) : Type 0 where
   pub label : (logs : Logs) → HasLogs logs trace → IsLabel logs (record { path = row.path; index = 0 }) read.source.label
   pub due : Option ℕ
   pub team : AreTeamBarriers trace row.path due

@@ -4,7 +4,7 @@ ghost use Rattle.sw_base.specs.Environment.{Content, HasCause};
 ghost use Rattle.sw_base.specs.Window.{Window as View};
 ghost use Rattle.log_format.specs.declared.format.Format.{Format};
 ghost use Rattle.race_model.specs.Row.{Row};
-ghost use Rattle.log_walk.specs.Ahead.{HasPassed, IsAhead, IsReading, IsSlot, IsSource, IsStage};
+ghost use Rattle.log_walk.specs.Ahead.{IsGoneOver, IsAhead, IsReading, IsSlot, IsSource, IsStage};
 
 use crate::check::{Checked, is_at_end, pass_ahead};
 use crate::state::State;
@@ -144,7 +144,7 @@ fn keep<F: Folder>(
     read: Ahead,
     ahead: &mut Vec<Ahead>,
 ) -> Result<(), Trouble>
-    ensures kept { (format : Format) (dir : List ℕ) (rows : List Row) → HasPassed format (F.state folder.old).content dir rows window.old read
+    ensures kept { (format : Format) (dir : List ℕ) (rows : List Row) → IsGoneOver format (F.state folder.old).content dir rows window.old read
         → All (IsAhead format (F.state folder.old).content dir rows) ahead.old.items
         → OnOk result (All (IsAhead format (F.state folder.old).content dir rows) ahead.new.items) }
 

@@ -6,7 +6,7 @@ ghost use Rattle.race_model.specs.IndexFault.{AreRows};
 ghost use Rattle.race_model.specs.LogFault.{max_segments};
 ghost use Rattle.race_model.specs.Row.{Row};
 ghost use Rattle.race_model.specs.Trace.{Trace};
-ghost use Rattle.log_walk.specs.Ahead.{Agrees, IsAhead};
+ghost use Rattle.log_walk.specs.Ahead.{StandsAsRead, IsAhead};
 ghost use Rattle.log_walk.specs.Stack.{IsStackAfter, WalksTask};
 ghost use Rattle.log_walk.specs.Walk.{TellsFirstBad, RefusesLogOf, Walked};
 
@@ -52,7 +52,7 @@ fn agrees(rows: &[IndexRow], stack: &Stack, read: &Ahead) -> bool
     requires within { stack.now.place < length rows.now }
     requires stands { (format : Format) × (trace : Trace) × IsStackAfter format rows.now stack.now trace }
     ensures { (format : Format) (trace : Trace) (row : Row) → IsStackAfter format rows.now stack.now trace → slice_get rows.now stack.now.place ≡ Some row
-        → IsTrue result → Agrees trace row stack.now.segments read.now }
+        → IsTrue result → StandsAsRead trace row stack.now.segments read.now }
 {
     let row = &rows[stack.place];
     let label = first_label(&stack.forks, &row.path);
@@ -85,7 +85,7 @@ fn take(ahead: &mut Vec<Ahead>, rows: &[IndexRow], stack: &Stack) -> Option<Ahea
     requires stands { (format : Format) × (trace : Trace) × IsStackAfter format rows.now stack.now trace }
     ensures place { IfSome result (λ read. read.source.place ≡ stack.now.place) }
     ensures agrees { (format : Format) (trace : Trace) (row : Row) → IsStackAfter format rows.now stack.now trace → slice_get rows.now stack.now.place ≡ Some row
-        → IfSome result (Agrees trace row stack.now.segments) }
+        → IfSome result (StandsAsRead trace row stack.now.segments) }
     ensures is { (format : Format) (told : Option Content) (dir : List ℕ) → All (IsAhead format told dir rows.now) ahead.old.items → IfSome result (IsAhead format told dir rows.now) }
     ensures left { (format : Format) (told : Option Content) (dir : List ℕ) → All (IsAhead format told dir rows.now) ahead.old.items → All (IsAhead format told dir rows.now) ahead.new.items }
 {
@@ -102,7 +102,7 @@ fn take_over(stack: &mut Stack, read: Ahead, found: &mut Vec<Segment>) -> Result
     requires place { stack.old.place < 2 ^ 32 }
     requires fits { stack.old.segments + read.checked.segments ≤ max_segments }
     ensures walks { (format : Format) (told : Option Content) (dir : List ℕ) (rows : List Row) (trace : Trace) (row : Row) → AreRows rows → IsStackAfter format rows stack.old trace → slice_get rows stack.old.place ≡ Some row
-        → IsAhead format told dir rows read → read.source.place ≡ stack.old.place → Agrees trace row stack.old.segments read
+        → IsAhead format told dir rows read → read.source.place ≡ stack.old.place → StandsAsRead trace row stack.old.segments read
         → OnOk result (WalksTask format told dir rows stack.new trace row found.old.items found.new.items) }
     ensures place { OnOk result (stack.new.place ≡ stack.old.place + 1) }
 {
