@@ -31,7 +31,7 @@ pub fn folder_pairs<R: Threads + Sync, F: Folder, G: Gate>(
 {
     let mut pairs = BTreeSet::new(alloc);
     let (mut sweep, _root) = Sweep::open(alloc, folder, dir)?;
-    'regions: while let Some(segments) = sweep.next(alloc, folder)? {
+    'regions: while let Some(segments) = sweep.next_by(rt, alloc, folder, workers)? {
         let found = compare_all(rt, alloc, &segments, workers, gate)?;
         unite(&mut pairs, &found)?;
     }

@@ -19,6 +19,7 @@ pub mod SpanOrder
 pub mod Steps
 pub mod SweepMoves
 pub mod Sweeping
+pub mod Taken
 pub mod TaskAt
 pub mod TaskReads
 pub mod WalkMoves

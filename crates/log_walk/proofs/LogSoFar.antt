@@ -1,10 +1,11 @@
 -- How a log is gone over, record by record.
 use Rattle.std.proofs.Common.{◌≡◌, ◌∙◌, ℕ, ◌+◌, ◌*◌, ◌<◌, ◌≤◌, List, [], ◌∷◌, ◌++◌, length, take, drop, refl, sym, ap, subst, arith}
-use Rattle.std.specs.Prelude.{Option}
+use Rattle.std.specs.Prelude.{Option, None}
 use Rattle.sw_base.specs.Environment.{Content, WhereTold}
 use Rattle.sw_base.specs.Window.{Window, Shows, file_of}
 use Rattle.sw_base.proofs.Windows.{shows_enough}
 use Rattle.log_format.specs.declared.format.Format.{Format}
+use Rattle.log_format.specs.Format.{log_header}
 use Rattle.log_format.specs.declared.record.Record.{Record}
 use Rattle.log_format.specs.Table.{Spells}
 use Rattle.race_model.specs.declared.why.RecordWhy.TheVariants as log
@@ -14,8 +15,9 @@ use Rattle.race_model.specs.Trace.{Logs}
 use Rattle.race_model.specs.Segment.{Event}
 use Rattle.log_segment.specs.declared.segment.Segment.{Segment}
 use Rattle.log_segment.specs.declared.walking.Walk.{Walk}
-use Rattle.log_segment.specs.Walking.{AddsSegments, Follows, IsNextOf, IsOwnAfter, OrdersInLane, begun_after, ended_by, event_after}
-use Rattle.log_segment.proofs.Passing.{walked_next}
+use Rattle.log_segment.specs.Walking.{AddsSegments, Follows, IsNextOf, IsOwnAfter, OrdersInLane, begun_after, ended_by, event_after, is_open as has_begun}
+use Rattle.log_segment.proofs.Passing.{walked_next, walked_none}
+use Rattle.stride_summary.specs.declared.summary.Summary.{Summary}
 use Rattle.log_walk.specs.declared.check.LogFault.{LogFault}
 use Rattle.log_walk.specs.declared.check.LogFault.TheVariants as fault
 use Rattle.log_walk.specs.declared.state.State.{State}
@@ -24,7 +26,7 @@ use Rattle.log_walk.specs.LogSoFar.{LogSoFar, window_at}
 use Rattle.log_walk.specs.Rules.{BreaksNone}
 use Rattle.log_walk.specs.State.{IsStateAfter, IsWalkAfter}
 use Rattle.log_walk.proofs.Left.{passes, short_left, whole_left}
-use Rattle.log_walk.proofs.SoFar.{PassesRecord, checks_next, cut_refused, next_refused, read_next, so_far}
+use Rattle.log_walk.proofs.SoFar.{PassesRecord, checks_next, checks_none, cut_refused, next_refused, read_next, read_none, so_far}
 
 -- only a lane's record is a barrier
 pub in_lane : (task : LogTask) (before : List Record) (r : Record) → BreaksNone task before r → OrdersInLane r.kind task.path
@@ -43,6 +45,21 @@ passes_next file bytes ahead later r index is left there spells shows =
   where
     next : 8 + 24 * (index + 1) ≡ 8 + 24 * index + 24
     next = omega arith
+
+-- before the first record
+pub log_none : {format : Format} (told : Option Content) (name : List ℕ) (task : LogTask) (opened : ℕ) (label : List Triple) (state : State) (walk : Walk) (window : Window) (found : List Segment) → opened ≤ max_segments → IsOwnAfter label 1
+    → IsStateAfter state opened [] → walk.label ≡ label → walk.first ≡ 1 → walk.summary ≡ None → walk.forks.items ≡ [] → window.place ≡ 8
+    → WhereTold told (λ c. Shows window (file_of c name) × (file_of c name ≡ log_header format ++ drop 8 (file_of c name))) → LogSoFar format told name task opened label state walk window.ahead found found 0
+log_none {format} told name task opened label state walk window found room own follows labelled first summary forks place passed = record {
+  records = [];
+  checks = checks_none task opened state [] refl follows room;
+  walked = walked_none task.path label walk found labelled first summary forks;
+  after = record { forks = ap length forks; begun = ap (λ (o : Option Summary). has_begun o) summary };
+  own = subst (λ (l : List Triple). IsOwnAfter l 1) (sym labelled) own;
+  read = λ c is.
+      (let it = passed c is in
+      read_none (file_of c name) [] (window_at 0 window.ahead) refl refl (it.0 ∙ ap (λ (n : ℕ). take (length window.ahead) (drop n (file_of c name))) place) it.1);
+}
 
 module _ {format : Format} (told : Option Content) (name : List ℕ) (task : LogTask) (opened : ℕ) (label : List Triple) (state : State) (walk : Walk) (old mid : List Segment) (index : ℕ) where
   -- one record more

@@ -1,3 +1,4 @@
+pub mod Ahead
 pub mod Check
 pub mod GoodTrace
 pub mod LogSoFar

@@ -1,7 +1,7 @@
 //! The check of one log.
-ghost use Rattle.std.specs.Prelude.{◌≡◌, ◌+◌, ◌-◌, ◌*◌, ◌<◌, ◌≤◌, ℕ, List, Option, [], ◌∷◌, ◌++◌, length, drop, IfOk, IfErr, IsErrOf, OnOk};
-ghost use Rattle.sw_base.specs.Environment.{Content, WhereTold, Rose};
-ghost use Rattle.sw_base.specs.Window.{file_of};
+ghost use Rattle.std.specs.Prelude.{◌≡◌, ◌+◌, ◌-◌, ◌*◌, ◌<◌, ◌≤◌, ℕ, List, Option, [], ◌∷◌, ◌++◌, length, drop, IfOk, IfErr, IsErrOf, IsTrue, IsFalse, OnOk};
+ghost use Rattle.sw_base.specs.Environment.{Content, HasCause, WhereTold, Rose};
+ghost use Rattle.sw_base.specs.Window.{Shows, file_of};
 ghost use Rattle.log_format.specs.Table.{HasAddress, Spells};
 ghost use Rattle.log_format.specs.declared.format.Format.{Format};
 ghost use Rattle.log_format.specs.declared.record.Record.{Record};
@@ -183,6 +183,48 @@ fn walk_ahead(
     Ok(after)
 }
 
+/// Passes the whole records that are ahead in the window, where they keep the rules, and tells how many records of the log
+/// were gone over by then. So many were before.
+pub fn pass_ahead(
+    alloc: Global,
+    format: Format,
+    window: &mut Window,
+    state: &mut State,
+    walk: &mut Walk,
+    task: &Task,
+    before: u32,
+    found: &mut Vec<Segment>,
+) -> Result<u32, LogFault>
+    requires records { task.now.records ≤ max_records }
+    requires before { before ≤ task.now.records }
+    requires place { window.old.place ≡ 8 + 24 * before }
+    requires so { (told : Option Content) × (name : List ℕ) × (opened : ℕ) × (label : List Triple) × (old : List Segment)
+        × LogSoFar format told name (log_task_of task.now) opened label state.old walk.old window.old.ahead old found.old.items before }
+    ensures goes { (told : Option Content) (name : List ℕ) (opened : ℕ) (label : List Triple) (old : List Segment)
+        → LogSoFar format told name (log_task_of task.now) opened label state.old walk.old window.old.ahead old found.old.items before
+        → IfOk result (λ after. LogSoFar format told name (log_task_of task.now) opened label state.new walk.new window.new.ahead old found.new.items after) }
+    ensures place { IfOk result (λ after. window.new.place ≡ 8 + 24 * after) }
+    ensures within { IfOk result (λ after. (before ≤ after) × (after ≤ task.now.records)) }
+    ensures none { IfOk result (λ after. after ≡ before → before < task.now.records → length window.old.ahead < 24) }
+    ensures refused { (told : Option Content) (name : List ℕ) (opened : ℕ) (label : List Triple) (old : List Segment)
+        → LogSoFar format told name (log_task_of task.now) opened label state.old walk.old window.old.ahead old found.old.items before
+        → IfErr result (λ e. WhereTold told (λ c. IsLogRefused format (file_of c name) (log_task_of task.now) opened e)) }
+    ensures read { IsErrOf result LogFault.ReadFault → ⊥ }
+{
+    let after = walk_ahead(
+        alloc,
+        format,
+        state,
+        walk,
+        task,
+        before,
+        window.ahead(),
+        found,
+    )?;
+    window.skip(RECORD * (after - before) as usize);
+    Ok(after)
+}
+
 /// Goes over the next records of a log, at least one, where they keep the rules, and tells how many were gone over by then.
 fn next_records<F: Folder>(
     alloc: Global,
@@ -215,24 +257,31 @@ fn next_records<F: Folder>(
     ensures cause { IsErrOf result LogFault.ReadFault → Rose (F.read_faults folder.old) (F.read_faults folder.new) }
 {
     window.fill(alloc, folder, name, RECORD)?;
-    let after = walk_ahead(
-        alloc,
-        format,
-        state,
-        walk,
-        task,
-        before,
-        window.ahead(),
-        found,
-    )?;
+    let after = pass_ahead(alloc, format, window, state, walk, task, before, found)?;
     if after == before {
         return Err(LogFault::Bad {
             number: before + 1,
             why: RecordWhy::Cut,
         });
     }
-    window.skip(RECORD * (after - before) as usize);
     Ok(after)
+}
+
+/// Whether no byte of the file follows those that the window passed.
+pub fn is_at_end<F: Folder>(
+    alloc: Global,
+    folder: &mut F,
+    name: &str,
+    window: &mut Window,
+) -> Result<bool, Trouble>
+    ensures end { IfOk result (λ ended. IsTrue ended → WhereTold (F.state folder.old).content (λ c. Shows window.old (file_of c name.now) → drop window.old.place (file_of c name.now) ≡ [])) }
+    ensures more { IfOk result (λ ended. IsFalse ended → WhereTold (F.state folder.old).content (λ c. Shows window.old (file_of c name.now) → 0 < length (drop window.old.place (file_of c name.now)))) }
+
+    ensures same { F.state folder.new ≡ F.state folder.old }
+    ensures cause { HasCause (F.read_faults folder.old) (F.read_faults folder.new) result }
+{
+    window.fill(alloc, folder, name, 1)?;
+    Ok(window.ahead().is_empty())
 }
 
 /// Goes over the log under this name, where it is good, and adds its segments. Else the first place at which it isn't.
@@ -273,8 +322,7 @@ pub fn check_log<F: Folder>(
         )?;
         index = after;
     }
-    window.fill(alloc, folder, name, 1)?;
-    if !window.ahead().is_empty() {
+    if !is_at_end(alloc, folder, name, window)? {
         return Err(LogFault::Bad {
             number: task.records + 1,
             why: RecordWhy::Extra,

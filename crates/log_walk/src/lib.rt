@@ -8,6 +8,7 @@
 //! read faults rose, and want of memory.
 #![tactic(auto)]
 
+mod ahead;
 mod check;
 mod fault;
 mod last_step;
@@ -19,7 +20,9 @@ mod stack;
 mod state;
 mod sweep;
 mod swept;
+mod taking;
 mod task;
+mod together;
 mod walking;
 
 pub use fault::WalkFault;

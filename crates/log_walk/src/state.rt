@@ -15,7 +15,7 @@ use mutex_set::Held;
 use race_model::RecordWhy;
 
 /// The most segments that a folder has.
-const MAX_SEGMENTS: u32 = 65_536;
+pub const MAX_SEGMENTS: u32 = 65_536;
 
 /// What is kept of the records of a log that were read.
 #[derive(Drop)]

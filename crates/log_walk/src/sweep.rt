@@ -1,24 +1,29 @@
 //! A folder gone over region by region.
-ghost use Rattle.std.specs.Prelude.{◌≡◌, ◌⊎◌, ◌≤◌, ◌<◌, ◌↔◌, ℕ, List, Err, None, length, IfOk, IfErr, IfSome, IsErrOf, IsTrue, OnOk};
-ghost use Rattle.sw_base.specs.Environment.{WhereTold, Rose};
+ghost use Rattle.std.specs.Prelude.{◌≡◌, ◌⊎◌, ◌≤◌, ◌<◌, ◌↔◌, ℕ, List, All, Err, None, length, IfOk, IfErr, IfSome, IsErrOf, IsTrue, OnErr, OnOk};
+ghost use Rattle.sw_base.specs.Environment.{HasCause, WhereTold, Rose};
 ghost use Rattle.log_format.specs.declared.format.Format.{Format};
 ghost use Rattle.log_format.specs.declared.format.TheConstants.{FORMAT};
 ghost use Rattle.race_model.specs.Trace.{Trace};
 ghost use Rattle.race_model.specs.IndexFault.{AreRows};
 ghost use Rattle.log_segment.specs.Regions.{IsUnderRegion};
+ghost use Rattle.log_walk.specs.Ahead.{IsAhead};
 ghost use Rattle.log_walk.specs.Stack.{IsStackAfter};
 ghost use Rattle.log_walk.specs.Sweep.{AreRegions, BeginsSweep, GivesRegion, HasRefused, HasSwept, HasSweptAll, RefusesIndexOrRoot, WalksRegion, logs_left, regions_given};
 ghost use Rattle.log_walk.specs.Walk.{TellsFirstBad, RefusesLogOf, Walked};
 
+use crate::ahead::Ahead;
 use crate::fault::WalkFault;
 use crate::log::walk_log;
 use crate::stack::Stack;
+use crate::taking::walk_next;
+use crate::together::read_ahead;
 use log_format::{FORMAT, Format};
 use log_index::{Row as IndexRow, read_index_as};
 use log_segment::Segment;
 use std::alloc::Global;
-use std::marker::Model;
-use sw_base::{Folder, Path};
+use std::marker::{Model, Sync};
+use std::thread::Threads;
+use sw_base::{Folder, Path, Trouble};
 
 /// The logs of a folder, gone over once: the root's first, and then those of one region of the root at a time. It keeps no
 /// record and no segment.
@@ -50,7 +55,8 @@ impl Model for Sweep {
     } };
 }
 
-fn is_under(path: &Path, region: u64) -> bool
+/// Whether the task is under the root's region of this number.
+pub fn is_under(path: &Path, region: u64) -> bool
     ensures { IsTrue result ↔ IsUnderRegion region path.now }
 {
     match path.steps().first() {
@@ -59,7 +65,7 @@ fn is_under(path: &Path, region: u64) -> bool
     }
 }
 
-/// Goes over the logs of the root's next region.
+/// Goes over the logs of the root's next region. Some may have been read before their turns.
 fn walk_region<F: Folder>(
     alloc: Global,
     format: Format,
@@ -68,8 +74,10 @@ fn walk_region<F: Folder>(
     rows: &[IndexRow],
     stack: &mut Stack,
     region: u64,
+    mut ahead: Vec<Ahead>,
 ) -> Result<Vec<Segment>, WalkFault>
     requires rows { AreRows rows.now }
+    requires read { All (IsAhead format (F.state folder.old).content dir.now rows.now) ahead.items }
     requires fits { (trace : Trace) × IsStackAfter format rows.now stack.old trace }
     requires ahead { stack.old.place < length rows.now }
     ensures walks { (trace : Trace) → IsStackAfter format rows.now stack.old trace → AreRegions region rows.now trace
@@ -86,7 +94,9 @@ fn walk_region<F: Folder>(
         if !is_under(&row.path, region) {
             return Ok(found);
         }
-        walk_log(alloc, format, folder, dir, rows, stack, &mut found)?;
+        walk_next(
+            alloc, format, folder, dir, rows, stack, &mut ahead, &mut found,
+        )?;
     }
     Ok(found)
 }
@@ -174,6 +184,100 @@ impl Sweep {
         ensures later { F.read_faults folder.old ≤ F.read_faults folder.new }
         ensures cause { IsErrOf result WalkFault.ReadFault → Rose (F.read_faults folder.old) (F.read_faults folder.new) ⊎ HasRefused self.old WalkFault.ReadFault }
     {
+        self.next_with(alloc, folder, Vec::new(alloc))
+    }
+
+    /// The same, by so many workers: one thread reads the files, and the workers go over the records of several lanes at once.
+    pub fn next_by<R: Threads + Sync, F: Folder>(
+        &mut self,
+        rt: &R,
+        alloc: Global,
+        folder: &mut F,
+        workers: usize,
+    ) -> Result<Option<Vec<Segment>>, WalkFault>
+        requires workers { 1 ≤ workers }
+        requires swept { (format : Format) × (dir : List ℕ) × (trace : Trace) × HasSwept format (F.state folder.old).content dir self.old trace }
+        ensures region { (format : Format) (dir : List ℕ) (trace : Trace) → HasSwept format (F.state folder.old).content dir self.old trace
+            → IfOk result (λ found. IfSome found (λ segments. GivesRegion format (F.state folder.old).content dir self.old self.new trace segments.items)) }
+        ensures shrinks { IfOk result (λ found. IfSome found (λ _. logs_left self.new < logs_left self.old)) }
+        ensures all { (format : Format) (dir : List ℕ) (trace : Trace) → HasSwept format (F.state folder.old).content dir self.old trace
+            → IfOk result (λ found. found ≡ None → (self.new ≡ self.old) × HasSweptAll format (F.state folder.old).content dir self.old trace) }
+        ensures refused { (format : Format) (dir : List ℕ) (trace : Trace) → HasSwept format (F.state folder.old).content dir self.old trace
+            → IfErr result (λ e. HasRefused self.new e × RefusesLogOf (IsUnderRegion (regions_given self.old)) e
+            × WhereTold (F.state folder.old).content (λ c. TellsFirstBad format c.held dir e) × HasSwept format (F.state folder.old).content dir self.new trace) }
+        ensures unrefused { OnOk result ((e : WalkFault) → HasRefused self.new e → ⊥) }
+        ensures again { (e : WalkFault) → HasRefused self.old e → result ≡ Err e }
+
+        ensures same { F.state folder.new ≡ F.state folder.old }
+        ensures later { F.read_faults folder.old ≤ F.read_faults folder.new }
+        ensures cause { IsErrOf result WalkFault.ReadFault → Rose (F.read_faults folder.old) (F.read_faults folder.new) ⊎ HasRefused self.old WalkFault.ReadFault }
+    {
+        match self.read(rt, alloc, folder, workers) {
+            Ok(ahead) => self.next_with(alloc, folder, ahead),
+            Err(trouble) => {
+                let refusal = WalkFault::from(trouble);
+                self.refused = Some(refusal.copy());
+                Err(refusal)
+            }
+        }
+    }
+
+    /// What workers read of the root's next region before the turns of its logs; nothing after a refusal.
+    fn read<R: Threads + Sync, F: Folder>(
+        &self,
+        rt: &R,
+        alloc: Global,
+        folder: &mut F,
+        workers: usize,
+    ) -> Result<Vec<Ahead>, Trouble>
+        requires rows { AreRows self.now.rows }
+        requires workers { 1 ≤ workers }
+        ensures ahead { IfOk result (λ ahead. All (IsAhead self.now.format (F.state folder.old).content self.now.dir self.now.rows) ahead.items) }
+        ensures fresh { OnErr result (self.now.refused ≡ None) }
+
+        ensures same { F.state folder.new ≡ F.state folder.old }
+        ensures cause { HasCause (F.read_faults folder.old) (F.read_faults folder.new) result }
+    {
+        if self.refused.is_some() {
+            return Ok(Vec::new(alloc));
+        }
+        read_ahead(
+            rt,
+            alloc,
+            self.format,
+            folder,
+            &self.dir,
+            &self.rows,
+            &self.stack,
+            self.region,
+            workers,
+        )
+    }
+
+    /// The segments under the root's next region, of which some logs were read before their turns.
+    fn next_with<F: Folder>(
+        &mut self,
+        alloc: Global,
+        folder: &mut F,
+        ahead: Vec<Ahead>,
+    ) -> Result<Option<Vec<Segment>>, WalkFault>
+        requires read { All (IsAhead self.old.format (F.state folder.old).content self.old.dir self.old.rows) ahead.items }
+        requires swept { (format : Format) × (dir : List ℕ) × (trace : Trace) × HasSwept format (F.state folder.old).content dir self.old trace }
+        ensures region { (format : Format) (dir : List ℕ) (trace : Trace) → HasSwept format (F.state folder.old).content dir self.old trace
+            → IfOk result (λ found. IfSome found (λ segments. GivesRegion format (F.state folder.old).content dir self.old self.new trace segments.items)) }
+        ensures shrinks { IfOk result (λ found. IfSome found (λ _. logs_left self.new < logs_left self.old)) }
+        ensures all { (format : Format) (dir : List ℕ) (trace : Trace) → HasSwept format (F.state folder.old).content dir self.old trace
+            → IfOk result (λ found. found ≡ None → (self.new ≡ self.old) × HasSweptAll format (F.state folder.old).content dir self.old trace) }
+        ensures refused { (format : Format) (dir : List ℕ) (trace : Trace) → HasSwept format (F.state folder.old).content dir self.old trace
+            → IfErr result (λ e. HasRefused self.new e × RefusesLogOf (IsUnderRegion (regions_given self.old)) e
+            × WhereTold (F.state folder.old).content (λ c. TellsFirstBad format c.held dir e) × HasSwept format (F.state folder.old).content dir self.new trace) }
+        ensures unrefused { OnOk result ((e : WalkFault) → HasRefused self.new e → ⊥) }
+        ensures again { (e : WalkFault) → HasRefused self.old e → result ≡ Err e }
+
+        ensures same { F.state folder.new ≡ F.state folder.old }
+        ensures later { F.read_faults folder.old ≤ F.read_faults folder.new }
+        ensures cause { IsErrOf result WalkFault.ReadFault → Rose (F.read_faults folder.old) (F.read_faults folder.new) ⊎ HasRefused self.old WalkFault.ReadFault }
+    {
         if let Some(refusal) = &self.refused {
             return Err(refusal.copy());
         }
@@ -188,6 +292,7 @@ impl Sweep {
             &self.rows,
             &mut self.stack,
             self.region,
+            ahead,
         ) {
             Ok(found) => {
                 self.region += 1;

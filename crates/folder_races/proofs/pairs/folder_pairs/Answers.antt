@@ -34,8 +34,8 @@ regions-preserved g c = record {
       let now = subst (λ (t : Option Content). HasSwept FORMAT t c.args.dir.now c.regions.sweep swept.trace) (sym (same_content c.regions.invariant.same)) swept.swept in
       let gives = rw c.in-Some.is at (c.in_ok-segments.ensures.region FORMAT c.args.dir.now swept.trace now) in
       let lists = rw c.deref.ensures.value at c.in_ok-found.ensures in
-      SweptPairs-next (g.F.Folder.state c.args.folder.now).content c.args.dir.now c.regions.sweep c.next.new.self c.regions.pairs.keys c.in_ok-found.found.keys c.unite.new.pairs.keys c.in-Some.segments.items swept
-      (subst (λ (t : Option Content). GivesRegion FORMAT t c.args.dir.now c.regions.sweep c.next.new.self swept.trace c.in-Some.segments.items) (same_content c.regions.invariant.same) gives)
+      SweptPairs-next (g.F.Folder.state c.args.folder.now).content c.args.dir.now c.regions.sweep c.next_by.new.self c.regions.pairs.keys c.in_ok-found.found.keys c.unite.new.pairs.keys c.in-Some.segments.items swept
+      (subst (λ (t : Option Content). GivesRegion FORMAT t c.args.dir.now c.regions.sweep c.next_by.new.self swept.trace c.in-Some.segments.items) (same_content c.regions.invariant.same) gives)
       lists c.in_ok-unite.ensures.added;
   fresh = c.in_ok-segments.ensures.unrefused;
   same = c.in_ok-segments.ensures.same ∙ c.regions.invariant.same;

@@ -1,36 +1,25 @@
-use Rattle.std.proofs.Common.{rules, ◌≡◌, refl, sym, ap, subst, ◌∙◌, arith, ◌<◌, ◌+◌, ◌*◌, ◌++◌, List, [], Option, ℕ, length, take, drop}
+use Rattle.std.proofs.Common.{rules, ◌≡◌, sym, ap, subst, ◌∙◌, arith, ◌<◌, ◌+◌, ◌*◌, ◌++◌, List, [], ℕ, length, drop}
 use Rattle.std.proofs.lemmas.Result.{err_from_is_err_and}
 use Rattle.sw_base.specs.Environment.{FolderState}
 use Rattle.sw_base.specs.Window.{file_of}
 use Rattle.race_model.specs.Label.{Triple}
 use Rattle.log_segment.specs.declared.walking.Walk.{Walk}
-use Rattle.log_segment.specs.Walking.{IsOwnAfter, WalksLog, is_open as has_begun}
-use Rattle.stride_summary.specs.declared.summary.Summary.{Summary}
-use Rattle.log_segment.proofs.Passing.{walked_none, walked_all}
+use Rattle.log_segment.specs.Walking.{WalksLog}
+use Rattle.log_segment.proofs.Passing.{walked_all}
 use Rattle.log_walk.specs.LogSoFar.{LogSoFar, window_at}
 use Rattle.log_walk.specs.Rules.{log_task_of}
-use Rattle.log_walk.proofs.SoFar.{SoFar, checks_none, read_none, so_far, extra_refused}
-use Rattle.log_walk.proofs.Left.{some_left, none_left, good_log, whole_log}
-use Rattle.log_walk.proofs.LogSoFar.{shows_from}
+use Rattle.log_walk.proofs.SoFar.{SoFar, so_far, extra_refused}
+use Rattle.log_walk.proofs.Left.{good_log, whole_log}
+use Rattle.log_walk.proofs.LogSoFar.{log_none, shows_from}
 use Rattle.log_walk.proofs.check.check_log.Goals as goal
 
 pub windows-init : goal.windows-init
 windows-init g c =
     let place = c.in_ok-pass_header.ensures.place (search rules) in
     record {
-      so = record {
-        records = [];
-        checks = checks_none (log_task_of c.args.task.now) c.args.opened c.new-state.result [] refl c.new-state.ensures c.requires.opened;
-        walked = walked_none c.args.task.now.path c.args.label c.new-walk.result c.args.found.now.items c.new-walk.ensures.label c.new-walk.ensures.first c.new-walk.ensures.summary c.new-walk.ensures.forks;
-        after = record {
-          forks = ap length c.new-walk.ensures.forks;
-          begun = ap (λ (o : Option Summary). has_begun o) c.new-walk.ensures.summary;
-        };
-        own = subst (λ (l : List Triple). IsOwnAfter l 1) (sym c.new-walk.ensures.label) c.requires.own;
-        read = λ x told. let it = c.in_ok-pass_header.ensures.passed (search rules) x told in read_none (file_of x c.args.name.now) [] (window_at 0 c.pass_header.new.self.ahead) refl refl
-            (it.0 ∙ ap (λ (n : ℕ). take (length c.pass_header.new.self.ahead) (drop n (file_of x c.args.name.now))) (c.in_ok-pass_header.ensures.place (search rules)))
-            (it.1 ∙ ap (λ (header : List ℕ). header ++ drop 8 (file_of x c.args.name.now)) c.log_header.ensures);
-      };
+      so = log_none (g.F.Folder.state c.args.folder.now).content c.args.name.now (log_task_of c.args.task.now) c.args.opened c.args.label c.new-state.result c.new-walk.result c.pass_header.new.self c.args.found.now.items c.requires.opened c.requires.own
+          c.new-state.ensures c.new-walk.ensures.label c.new-walk.ensures.first c.new-walk.ensures.summary c.new-walk.ensures.forks place
+          (λ x told. let it = c.in_ok-pass_header.ensures.passed (search rules) x told in (it.0, it.1 ∙ ap (λ (header : List ℕ). header ++ drop 8 (file_of x c.args.name.now)) c.log_header.ensures));
       place = place;
       within = omega arith;
       same = c.pass_header.ensures.same;
@@ -66,20 +55,18 @@ windows-preserved g c = record {
   later = omega (arith, c.in_ok-after.ensures.later, c.windows.invariant.later);
 }
 
-pub returns-then-not-is_empty-clause-refused : goal.returns-then-not-is_empty-clause-refused
-returns-then-not-is_empty-clause-refused g c = λ x told.
+pub returns-then-not-branch-2-clause-refused : goal.returns-then-not-branch-2-clause-refused
+returns-then-not-branch-2-clause-refused g c = λ x told.
     let task = log_task_of c.args.task.now in
     let file : List ℕ = file_of x c.args.name.now in
     let known = c.windows.invariant.so in
     let read = known.read x told in
     let so : SoFar c.args.format file task c.args.opened c.windows.state known.records (drop (8 + 24 * c.windows.index) file) c.windows.index =
     so_far file task c.args.opened c.windows.state known.records (window_at c.windows.index c.windows.window.ahead) c.windows.index known.checks read in
-    let same : take 1 c.ahead.result.now ≡ take 1 (drop (8 + 24 * c.windows.index) file) =
-    ap (λ (bs : List ℕ). take 1 bs) c.ahead.ensures ∙ c.in_ok-fill.ensures.next x (ap (λ s. s.content) c.windows.invariant.same ∙ told) (shows_from c.windows.window c.windows.index file c.windows.invariant.place read.shows)
-    ∙ ap (λ (n : ℕ). take 1 (drop n file)) (c.fill.ensures.place ∙ c.windows.invariant.place) in
-    let some : 0 < length c.ahead.result.now = grind (arith, c.if-not-is_empty.ensures) in
+    let some : 0 < length (drop c.windows.window.place file) =
+    c.in_ok-is_at_end.ensures.more (search rules) x (ap (λ s. s.content) c.windows.invariant.same ∙ told) (shows_from c.windows.window c.windows.index file c.windows.invariant.place read.shows) in
     extra_refused file task c.args.opened c.windows.state known.records (drop (8 + 24 * c.windows.index) file) c.windows.index so (omega arith)
-    (some_left c.ahead.result.now (drop (8 + 24 * c.windows.index) file) same some)
+    (subst (λ (n : ℕ). 0 < length (drop n file)) c.windows.invariant.place some)
 
 pub returns-clause-good : goal.returns-clause-good
 returns-clause-good g c =
@@ -93,11 +80,9 @@ returns-clause-good g c =
       whole = λ x told.
           let file : List ℕ = file_of x c.args.name.now in
           let read = known.read x told in
-          let same : take 1 c.ahead.result.now ≡ take 1 (drop (8 + 24 * c.windows.index) file) =
-          ap (λ (bs : List ℕ). take 1 bs) c.ahead.ensures ∙ c.in_ok-fill.ensures.next x (ap (λ s. s.content) c.windows.invariant.same ∙ told) (shows_from c.windows.window c.windows.index file c.windows.invariant.place read.shows)
-          ∙ ap (λ (n : ℕ). take 1 (drop n file)) (c.fill.ensures.place ∙ c.windows.invariant.place) in
-          let none : length c.ahead.result.now ≡ 0 = grind (arith, c.if-not-is_empty.ensures) in
-          whole_log file known.records (window_at c.windows.index c.windows.window.ahead) read (none_left c.ahead.result.now (drop (8 + 24 * c.windows.index) file) same none);
+          let none : drop c.windows.window.place file ≡ [] =
+          c.in_ok-is_at_end.ensures.end (search rules) x (ap (λ s. s.content) c.windows.invariant.same ∙ told) (shows_from c.windows.window c.windows.index file c.windows.invariant.place read.shows) in
+          whole_log file known.records (window_at c.windows.index c.windows.window.ahead) read (subst (λ (n : ℕ). drop n file ≡ []) c.windows.invariant.place none);
       walks = subst (λ (forks : List (List Triple)). WalksLog c.args.task.now.path c.args.label known.records forks c.args.found.now.items c.close.new.found.items) (ap (λ (w : Walk). w.forks.items) (sym c.in_ok-close.ensures.same))
           (walked_all c.args.task.now.path c.args.label known.records c.windows.walk c.args.task.now.records c.args.found.now.items c.windows.found.items c.close.new.found.items known.walked (sym (known.checks.count ∙ all))
           c.in_ok-close.ensures.empty c.in_ok-close.ensures.added);

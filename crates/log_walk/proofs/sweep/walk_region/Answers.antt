@@ -1,9 +1,10 @@
-use Rattle.std.proofs.Common.{◌≡◌, ◌∙◌, ◌++◌, List, ℕ, Some, rules, refl, sym, ap, subst, arith}
+use Rattle.std.proofs.Common.{◌≡◌, ◌∙◌, ◌++◌, List, All, ℕ, Some, rules, refl, sym, ap, subst, arith}
 use Rattle.std.specs.Prelude.{slice_get}
 use Rattle.std.proofs.lemmas.Result.{err_from_is_err_and}
 use Rattle.sw_base.specs.Environment.{FolderState}
 use Rattle.race_model.specs.Row.{Row}
 use Rattle.log_segment.specs.declared.segment.Segment.{Segment}
+use Rattle.log_walk.specs.Ahead.{IsAhead}
 use Rattle.log_walk.specs.Stack.{WalksTask}
 use Rattle.log_segment.specs.Regions.{IsUnderRegion}
 use Rattle.log_walk.proofs.RowReads.{row_read}
@@ -14,6 +15,7 @@ pub tasks-init : goal.tasks-init
 tasks-init g c = record {
   so = λ trace stands. subst (λ (xs : List Segment). RegionSoFar c.args.format (g.F.Folder.state c.args.folder.now).content c.args.dir.now c.args.rows.now c.args.region trace c.args.stack.now c.args.stack.now.place xs) (sym c.new-found.ensures.items)
       (region_none (g.F.Folder.state c.args.folder.now).content c.args.dir.now c.args.rows.now c.args.region trace c.args.stack.now c.args.stack.now.place stands refl);
+  read = c.requires.read;
   same = refl;
   later = omega arith;
 }
@@ -24,26 +26,30 @@ returns-then-not-is_under-clause-walks g c = λ trace stands regions.
     region_stop (g.F.Folder.state c.args.folder.now).content c.args.dir.now c.args.rows.now c.args.region trace c.tasks.stack c.tasks.index (record { path = c.row.inside.path; records = c.row.inside.records }) c.tasks.found.items (c.tasks.invariant.so trace stands) regions read
     (λ is_under. let yes_it_is = c.is_under.ensures.1 is_under in cc (yes_it_is, c.if-not-is_under.true))
 
-pub walk_log-requires-clause-within : goal.walk_log-requires-clause-within
-walk_log-requires-clause-within g c κs within =
+pub walk_next-requires-clause-within : goal.walk_next-requires-clause-within
+walk_next-requires-clause-within g c κs within =
     let so = c.tasks.invariant.so c.requires.fits.0 c.requires.fits.1 in
     omega (arith, so.stands.place, so.at_row, c.tasks-test.true)
 
-pub walk_log-requires-clause-stands : goal.walk_log-requires-clause-stands
-walk_log-requires-clause-stands g c κs within =
+pub walk_next-requires-clause-stands : goal.walk_next-requires-clause-stands
+walk_next-requires-clause-stands g c κs within =
     let so = c.tasks.invariant.so c.requires.fits.0 c.requires.fits.1 in
     (c.requires.fits.0 ++ so.more, so.stands)
 
-pub returns-in_err-walk_log-clause-refused : goal.returns-in_err-walk_log-clause-refused
-returns-in_err-walk_log-clause-refused g c = λ trace stands holds.
+pub walk_next-requires-clause-ahead : goal.walk_next-requires-clause-ahead
+walk_next-requires-clause-ahead g c κs within =
+    subst (λ (s : FolderState). All (IsAhead c.args.format s.content c.args.dir.now c.args.rows.now) c.tasks.ahead.items) (sym c.tasks.invariant.same) c.tasks.invariant.read
+
+pub returns-in_err-walk_next-clause-refused : goal.returns-in_err-walk_next-clause-refused
+returns-in_err-walk_next-clause-refused g c = λ trace stands holds.
     let p = err_from_is_err_and c.from_residual.result c.from_residual.ensures.1 in
     let so = c.tasks.invariant.so trace stands in
     let mine : Row = record { path = c.row.inside.path; records = c.row.inside.records } in
     let read : slice_get c.args.rows.now c.tasks.index ≡ Some (record { path = c.row.inside.path; records = c.row.inside.records }) = row_read c.args.rows.now c.tasks.index c.index-rows-index.result _ c.tasks-test.true c.index-rows-index.is c.row.view_is in
     let at : slice_get c.args.rows.now c.tasks.stack.place ≡ Some mine = ap (λ (n : ℕ). slice_get c.args.rows.now n) (so.stands.place ∙ sym so.at_row) ∙ read in
     rw (p.1, p.2) (
-      refuses_one (IsUnderRegion c.args.region) c.row.inside.path c.in_err-walk_log.field-0.0 (c.is_under.ensures.0 (search (rules, c.if-not-is_under.false))) (c.in_err-walk_log.ensures.of_row mine at),
-      λ content told. c.in_err-walk_log.ensures.refused (trace ++ so.more) mine so.stands at content (ap (λ s. s.content) c.tasks.invariant.same ∙ told) (so.holds holds content told),
+      refuses_one (IsUnderRegion c.args.region) c.row.inside.path c.in_err-walk_next.field-0.0 (c.is_under.ensures.0 (search (rules, c.if-not-is_under.false))) (c.in_err-walk_next.ensures.of_row mine at),
+      λ content told. c.in_err-walk_next.ensures.refused (trace ++ so.more) mine so.stands at content (ap (λ s. s.content) c.tasks.invariant.same ∙ told) (so.holds holds content told),
     )
 
 pub tasks-preserved : goal.tasks-preserved
@@ -55,11 +61,12 @@ tasks-preserved g c =
       so = λ trace stands.
           (let so = c.tasks.invariant.so trace stands in
           let at : slice_get c.args.rows.now c.tasks.stack.place ≡ Some mine = ap (λ (n : ℕ). slice_get c.args.rows.now n) (so.stands.place ∙ sym so.at_row) ∙ read in
-          region_next (g.F.Folder.state c.args.folder.now).content c.args.dir.now c.args.rows.now c.args.region trace c.tasks.stack c.walk_log.new.stack c.tasks.index mine c.tasks.found.items c.walk_log.new.found.items so read under
-          (subst (λ (s : FolderState). WalksTask c.args.format s.content c.args.dir.now c.args.rows.now c.walk_log.new.stack (trace ++ so.more) mine c.tasks.found.items c.walk_log.new.found.items) c.tasks.invariant.same
-          (c.in_ok-walk_log.ensures.walks (trace ++ so.more) mine so.stands at)));
-      same = c.in_ok-walk_log.ensures.same ∙ c.tasks.invariant.same;
-      later = omega (arith, c.in_ok-walk_log.ensures.later, c.tasks.invariant.later);
+          region_next (g.F.Folder.state c.args.folder.now).content c.args.dir.now c.args.rows.now c.args.region trace c.tasks.stack c.walk_next.new.stack c.tasks.index mine c.tasks.found.items c.walk_next.new.found.items so read under
+          (subst (λ (s : FolderState). WalksTask c.args.format s.content c.args.dir.now c.args.rows.now c.walk_next.new.stack (trace ++ so.more) mine c.tasks.found.items c.walk_next.new.found.items) c.tasks.invariant.same
+          (c.in_ok-walk_next.ensures.walks (trace ++ so.more) mine so.stands at)));
+      read = subst (λ (s : FolderState). All (IsAhead c.args.format s.content c.args.dir.now c.args.rows.now) c.walk_next.new.ahead.items) c.tasks.invariant.same c.in_ok-walk_next.ensures.left;
+      same = c.in_ok-walk_next.ensures.same ∙ c.tasks.invariant.same;
+      later = omega (arith, c.in_ok-walk_next.ensures.later, c.tasks.invariant.later);
     }
 
 pub returns-clause-walks : goal.returns-clause-walks

@@ -1,15 +1,16 @@
-use Rattle.std.proofs.Common.{rules, ◌≡◌, ◌∙◌, ◌≤◌, ◌<◌, ◌^◌, ◌+◌, List, ℕ, Some, None, length, string_bytes, refl, sym, ap, subst, arith}
+use Rattle.std.proofs.Common.{rules, ◌≡◌, ◌∙◌, ◌≤◌, ◌<◌, ◌^◌, ◌+◌, List, All, ℕ, Some, None, length, string_bytes, refl, sym, ap, subst, arith}
 use Rattle.sw_base.specs.Environment.{WhereTold}
 use Rattle.log_format.specs.declared.format.Format.{Format}
 use Rattle.race_model.specs.Row.{Row}
 use Rattle.log_walk.specs.declared.fault.WalkFault.{WalkFault}
 use Rattle.log_walk.specs.declared.sweep.Sweep.{Sweep}
+use Rattle.log_walk.specs.Ahead.{IsAhead}
 use Rattle.log_walk.specs.Stack.{IsStackAfter}
 use Rattle.log_segment.specs.Regions.{IsUnderRegion}
 use Rattle.log_walk.specs.Sweep.{AreRegions, GivesRegion, HasSwept, WalksRegion}
 use Rattle.log_walk.specs.Walk.{RefusesLogOf, TellsFirstBad, Walked}
 use Rattle.log_walk.proofs.SweepMoves.{gives_region, swept_all, refused_kept, region_small}
-use Rattle.log_walk.proofs.sweep.Sweep.next.Goals as goal
+use Rattle.log_walk.proofs.sweep.Sweep.next_with.Goals as goal
 
 pub returns-in-Some-clause-refused : goal.returns-in-Some-clause-refused
 returns-in-Some-clause-refused g c = λ format dir trace swept.
@@ -25,6 +26,13 @@ returns-then-self-len-clause-all g c = λ format dir trace swept none.
       swept_all (g.F.Folder.state c.args.folder.now).content dir c.args.self.now trace swept (ap (λ (s : Sweep). s.refused) (sym c.self.view_is) ∙ fresh)
           (subst (λ (s : Sweep). length s.rows ≤ s.stack.place) c.self.view_is past),
     )
+
+pub walk_region-requires-clause-read : goal.walk_region-requires-clause-read
+walk_region-requires-clause-read g c κs within =
+    let told = (g.F.Folder.state c.args.folder.now).content in
+    let inside = subst (λ (s : Sweep). All (IsAhead s.format told s.dir s.rows) c.args.ahead.items) (sym c.self.view_is) c.requires.read in
+    subst (λ (rs : List Row). All (IsAhead c.self.inside.format told c.deref.result.now rs) c.args.ahead.items) (sym c.deref-2.ensures.value)
+    (subst (λ (d : List ℕ). All (IsAhead c.self.inside.format told d c.self.inside.rows.items) c.args.ahead.items) (sym c.deref.ensures) inside)
 
 pub overflow_add-self : goal.overflow_add-self
 overflow_add-self g c =

@@ -1,0 +1,12 @@
+use Rattle.std.proofs.Common.{sym, subst}
+use Rattle.log_walk.specs.Ahead.{IsStage}
+use Rattle.log_walk.specs.declared.ahead.Stage.{Stage}
+use Rattle.log_walk.proofs.ahead.Slot.fill.Goals as goal
+
+pub returns-clause-fills : goal.returns-clause-fills
+returns-clause-fills g c = λ dir rows is all.
+    c.in_ok-self.ensures.goes dir rows (subst (λ (s : Stage). IsStage c.args.format (g.F.Folder.state c.args.folder.now).content dir rows c.args.self.now.window s) (sym c.replace-stage.ensures.value) is) all
+
+pub returns-clause-kept : goal.returns-clause-kept
+returns-clause-kept g c = λ dir rows is all.
+    c.in_ok-self.ensures.kept dir rows (subst (λ (s : Stage). IsStage c.args.format (g.F.Folder.state c.args.folder.now).content dir rows c.args.self.now.window s) (sym c.replace-stage.ensures.value) is) all
