@@ -2,5 +2,6 @@ mod generated;
 mod labels;
 mod replays;
 mod segments;
+mod together;
 mod upgrades;
 mod walks;

@@ -9,20 +9,20 @@ use std::test::Fail;
 use sw_base::{Folder, INDEX_HEADER, LOG_HEADER, Memory, Path};
 
 // A record: kind, size, line, address and value.
-type Rec = (u8, u8, u8, u64, u8);
+pub type Rec = (u8, u8, u8, u64, u8);
 
 // A step of a path: region, lane and span.
-type Step = (u8, u8, u8);
+pub type Step = (u8, u8, u8);
 
 // A row: the steps of its path, and how many records it tells.
-type Row<'a> = (&'a [Step], u32);
+pub type Row<'a> = (&'a [Step], u32);
 
 // A folder: the rows of its index, its logs with their records, and files of other bytes.
 #[derive(Clone, Copy, Drop)]
-struct Files<'a> {
-    rows: &'a [Row<'a>],
-    logs: &'a [(&'a str, &'a [Rec])],
-    others: &'a [(&'a str, &'a [u8])],
+pub struct Files<'a> {
+    pub rows: &'a [Row<'a>],
+    pub logs: &'a [(&'a str, &'a [Rec])],
+    pub others: &'a [(&'a str, &'a [u8])],
 }
 
 const LOCK: Rec = (3, 0, 2, 1, 0);
@@ -89,7 +89,7 @@ const GOOD: Files<'static> = three!(rows!(2, 5, 5), ROOT, LANE_0, LANE_1);
 
 // What a walk answered; a task is told by 0 for the root, and by its lane plus 1.
 #[derive(Clone, Copy, PartialEq, Eq)]
-enum Told {
+pub enum Told {
     Good,
     NoIndex,
     Row(u32, IndexWhy),
@@ -107,7 +107,7 @@ fn task_of(path: &Path) -> u32 {
     }
 }
 
-fn fault_told(fault: &WalkFault) -> Told {
+pub fn fault_told(fault: &WalkFault) -> Told {
     match fault {
         WalkFault::NoIndex => Told::NoIndex,
         WalkFault::BadIndex { row, why } => Told::Row(*row, *why),
@@ -154,7 +154,7 @@ fn index_of(alloc: Global, rows: &[Row<'_>]) -> Result<Vec<u8>, AllocError> {
     Ok(index)
 }
 
-fn folder_of(alloc: Global, files: &Files<'_>) -> Result<MemFolder, Memory> {
+pub fn folder_of(alloc: Global, files: &Files<'_>) -> Result<MemFolder, Memory> {
     let mut folder = MemFolder::new(alloc)?;
     folder.hold("d/index.swi", &index_of(alloc, files.rows)?)?;
     for (name, records) in files.logs {

@@ -1,0 +1,259 @@
+//! Lanes whose logs are read together: the same segments and the same first bad places as one after another.
+ghost use Rattle.std.specs.Prelude.{◌<◌, ◌^◌, ◌≤◌};
+
+use super::walks::{Files, Rec, Told, fault_told, folder_of};
+use log_walk::{RecordWhy, Segment, Sweep, WalkFault};
+use memory_environment::MemFolder;
+use std::alloc::{AllocError, Global};
+use std::marker::Sync;
+use std::test::Fail;
+use std::thread::Threads;
+use sw_base::Memory;
+
+const BARRIER: Rec = (5, 0, 5, 0, 0);
+
+const END: Rec = (8, 0, 8, 0, 0);
+
+const UNLOCK: Rec = (4, 0, 4, 1, 0);
+
+// A fork of so many lanes.
+fn fork(lanes: u8) -> Rec {
+    (6, 0, 1, 0, lanes)
+}
+
+// The root forks a region of four lanes, and the second of these one of two.
+const ROOT: &[Rec] = &[(6, 0, 1, 0, 4), END];
+
+const INNER: &[Rec] = &[(2, 8, 7, 4096, 0), END];
+
+// A lane's log: so many writes with a barrier after each of the first, and what comes before its End.
+#[derive(Clone, Copy, Debug)]
+struct Lane {
+    writes: u32,
+    barriers: u32,
+    last: Rec,
+}
+
+const PLAIN: Lane = Lane {
+    writes: 5_000,
+    barriers: 3,
+    last: (2, 8, 9, 8192, 0),
+};
+
+fn records_of(alloc: Global, lane: &Lane) -> Result<Vec<Rec>, AllocError> {
+    let mut records = Vec::new(alloc);
+    for number in 0..lane.writes {
+        records.push((2, 8, 3, 4096 + 8 * u64::from(number), 0))?;
+        if number < lane.barriers {
+            records.push(BARRIER)?;
+        }
+    }
+    records.extend_from_slice(&[lane.last, END])?;
+    Ok(records)
+}
+
+// The folder of a team of these lanes, the second of which forks another team where its last record is a fork of two lanes.
+fn team(alloc: Global, lanes: &[Lane; 4]) -> Result<MemFolder, Memory> {
+    let zero = records_of(alloc, &lanes[0])?;
+    let one = records_of(alloc, &lanes[1])?;
+    let two = records_of(alloc, &lanes[2])?;
+    let three = records_of(alloc, &lanes[3])?;
+    let files = Files {
+        rows: &[
+            (&[], 2),
+            (&[(0, 0, 4)], zero.len() as u32),
+            (&[(0, 1, 4)], one.len() as u32),
+            (&[(0, 1, 4), (0, 0, 2)], 2),
+            (&[(0, 1, 4), (0, 1, 2)], 2),
+            (&[(0, 2, 4)], two.len() as u32),
+            (&[(0, 3, 4)], three.len() as u32),
+        ],
+        logs: &[
+            ("d/t.swl", ROOT),
+            ("d/t-0.0.swl", &zero),
+            ("d/t-0.1.swl", &one),
+            ("d/t-0.1-0.0.swl", INNER),
+            ("d/t-0.1-0.1.swl", INNER),
+            ("d/t-0.2.swl", &two),
+            ("d/t-0.3.swl", &three),
+        ],
+        others: &[],
+    };
+    folder_of(alloc, &files)
+}
+
+// The second lane's log, which forks a team of two lanes.
+fn forking(lane: Lane) -> Lane {
+    Lane {
+        last: fork(2),
+        ..lane
+    }
+}
+
+// The segments of the root's first region, by so many workers.
+fn by<R: Threads + Sync>(
+    rt: &R,
+    alloc: Global,
+    folder: &mut MemFolder,
+    workers: usize,
+) -> Result<Option<Vec<Segment>>, WalkFault>
+    requires { 1 ≤ workers }
+{
+    let (mut sweep, _root) = Sweep::open(alloc, folder, "d")?;
+    sweep.next_by(rt, alloc, folder, workers)
+}
+
+// The same, one log after another.
+fn alone(alloc: Global, folder: &mut MemFolder) -> Result<Option<Vec<Segment>>, WalkFault> {
+    let (mut sweep, _root) = Sweep::open(alloc, folder, "d")?;
+    sweep.next(alloc, folder)
+}
+
+fn is_same(one: &Segment, other: &Segment) -> bool {
+    one.path.steps() == other.path.steps()
+        && (one.first, one.last) == (other.first, other.last)
+        && one.label.triples() == other.label.triples()
+        && one.runs.len() == other.runs.len()
+}
+
+fn are_same(some: &[Segment], others: &[Segment]) -> bool {
+    some.len() == others.len()
+        && some
+            .iter()
+            .zip(others)
+            .all(|(one, other)| is_same(one, other))
+}
+
+fn told(answer: Result<Option<Vec<Segment>>, WalkFault>) -> Told {
+    match answer {
+        Ok(_) => Told::Good,
+        Err(fault) => fault_told(&fault),
+    }
+}
+
+// Whether each number of workers tells this of the folder, as it is told of one log after another.
+fn is_told<R: Threads + Sync>(rt: &R, alloc: Global, folder: &mut MemFolder, due: Told) -> bool {
+    for workers in [1, 2, 4, 64] {
+        if told(by(rt, alloc, folder, workers)) != due {
+            return false;
+        }
+    }
+    told(alone(alloc, folder)) == due
+}
+
+fn give_the_same<R: Threads + Sync>(
+    rt: &R,
+    alloc: Global,
+    lanes: &[Lane; 4],
+) -> Result<bool, Fail> {
+    let mut folder = team(alloc, lanes)?;
+    let Ok(Some(due)) = alone(alloc, &mut folder) else {
+        return Ok(false);
+    };
+    for workers in [1, 2, 4, 64] {
+        let Ok(Some(found)) = by(rt, alloc, &mut folder, workers) else {
+            return Ok(false);
+        };
+        if !are_same(&found, &due) {
+            return Ok(false);
+        }
+    }
+    // Four intervals in each lane, and one in each lane of the inner team.
+    Ok(due.len() == 18)
+}
+
+#[test]
+fn lanes_read_together_give_the_same_segments(rt: HostRuntime) -> Result<(), Fail> {
+    let long = Lane {
+        writes: 12_000,
+        ..PLAIN
+    };
+    assert!(rt; give_the_same(&rt, rt.alloc(), &[PLAIN, forking(long), long, PLAIN])?);
+    Ok(())
+}
+
+// A lane that breaks a rule in its last record but one.
+const BROKEN: Lane = Lane {
+    last: UNLOCK,
+    ..PLAIN
+};
+
+// A lane with a barrier too many.
+const LATE: Lane = Lane {
+    barriers: 4,
+    ..PLAIN
+};
+
+#[test]
+fn the_first_bad_place_is_told_by_each_number_of_workers(rt: HostRuntime) -> Result<(), Fail> {
+    let table = [
+        (
+            [PLAIN, forking(PLAIN), BROKEN, BROKEN],
+            Told::Record(3, 5_004, RecordWhy::UnlockOther),
+        ),
+        (
+            [PLAIN, BROKEN, BROKEN, PLAIN],
+            Told::Record(2, 5_004, RecordWhy::UnlockOther),
+        ),
+        (
+            [PLAIN, forking(PLAIN), PLAIN, LATE],
+            Told::Record(4, 5_006, RecordWhy::BarrierCount),
+        ),
+        (
+            [LATE, forking(PLAIN), PLAIN, PLAIN],
+            Told::Record(2, 5_005, RecordWhy::BarrierCount),
+        ),
+    ];
+    for (lanes, due) in &table {
+        let mut folder = team(rt.alloc(), lanes)?;
+        assert!(rt; is_told(&rt, rt.alloc(), &mut folder, *due), "{lanes:?}");
+    }
+    Ok(())
+}
+
+// A lane with a segment for each of its writes.
+const MANY: Lane = Lane {
+    writes: 17_000,
+    barriers: 17_000,
+    last: (2, 8, 9, 8192, 0),
+};
+
+#[test]
+fn a_segment_too_many_beside_others_is_told(rt: HostRuntime) -> Result<(), Fail> {
+    // The lanes before the last have 17,001 segments, 17,000 and 17,001, and the inner ones two.
+    let mut folder = team(rt.alloc(), &[MANY, forking(MANY), MANY, MANY])?;
+    assert!(rt; told(by(&rt, rt.alloc(), &mut folder, 4)) == Told::TooMany(4, 29_065));
+    Ok(())
+}
+
+// The first call on the folder whose failure isn't told as a read that failed, by so many workers.
+fn first_untold<R: Threads + Sync>(
+    rt: &R,
+    alloc: Global,
+    lanes: &[Lane; 4],
+    workers: usize,
+) -> Result<u64, Memory>
+    requires { 1 ≤ workers }
+{
+    for call in 1..100 {
+        let mut folder = team(alloc, lanes)?;
+        folder.fail(&[call])?;
+        if told(by(rt, alloc, &mut folder, workers)) != Told::ReadFault {
+            return Ok(call);
+        }
+    }
+    Ok(100)
+}
+
+#[test]
+fn a_read_that_fails_beside_others_is_told(rt: HostRuntime) -> Result<(), Fail> {
+    let long = Lane {
+        writes: 12_000,
+        ..PLAIN
+    };
+    // The size of the index and its nine reads; for the root, three lanes and the two inner ones a size and two reads, and for the
+    // third lane, whose log takes two windows, one read more.
+    let calls = first_untold(&rt, rt.alloc(), &[PLAIN, forking(PLAIN), long, PLAIN], 4)?;
+    assert_eq!(rt; calls, 33);
+    Ok(())
+}
