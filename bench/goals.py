@@ -122,7 +122,7 @@ def checks(args, top):
     plain, one, four = measured([[args.plain, folder], [args.sword, "check", folder, "1"], [args.sword, "check", folder, "4"]], args.runs)
     print(f"checks: plain {plain[0]:.3f} s, W 1 {one[0]:.3f} s, W 4 {four[0]:.3f} s, {four[2]:.0f} MB")
     goal("check, W 1", one[0] / plain[0], "at most", 1, "times the plain sweep")
-    goal("check, W 4", four[0] / plain[0], "at most", 0.5, "times the plain sweep")
+    goal("check, W 4", four[0] / plain[0], "at most", 0.35, "times the plain sweep")
 
 
 def kernel(args, top):
