@@ -1,7 +1,7 @@
 //! Lanes whose logs are read together: the same segments and the same first bad places as one after another.
 ghost use Rattle.std.specs.Prelude.{◌<◌, ◌^◌, ◌≤◌};
 
-use super::walks::{Files, Rec, Told, fault_told, folder_of};
+use super::walks::{Rec, Row, Told, fault_told, index_of, log_of};
 use log_walk::{RecordWhy, Segment, Sweep, WalkFault};
 use memory_environment::MemFolder;
 use std::alloc::{AllocError, Global};
@@ -52,34 +52,39 @@ fn records_of(alloc: Global, lane: &Lane) -> Result<Vec<Rec>, AllocError> {
     Ok(records)
 }
 
+// Puts the log of this lane into the folder, and tells how many records it has.
+fn hold_lane(
+    alloc: Global,
+    folder: &mut MemFolder,
+    name: &str,
+    lane: &Lane,
+) -> Result<u32, Memory> {
+    let records = records_of(alloc, lane)?;
+    folder.hold(name, &log_of(alloc, &records)?)?;
+    Ok(records.len() as u32)
+}
+
 // The folder of a team of these lanes, the second of which forks another team where its last record is a fork of two lanes.
 fn team(alloc: Global, lanes: &[Lane; 4]) -> Result<MemFolder, Memory> {
-    let zero = records_of(alloc, &lanes[0])?;
-    let one = records_of(alloc, &lanes[1])?;
-    let two = records_of(alloc, &lanes[2])?;
-    let three = records_of(alloc, &lanes[3])?;
-    let files = Files {
-        rows: &[
-            (&[], 2),
-            (&[(0, 0, 4)], zero.len() as u32),
-            (&[(0, 1, 4)], one.len() as u32),
-            (&[(0, 1, 4), (0, 0, 2)], 2),
-            (&[(0, 1, 4), (0, 1, 2)], 2),
-            (&[(0, 2, 4)], two.len() as u32),
-            (&[(0, 3, 4)], three.len() as u32),
-        ],
-        logs: &[
-            ("d/t.swl", ROOT),
-            ("d/t-0.0.swl", &zero),
-            ("d/t-0.1.swl", &one),
-            ("d/t-0.1-0.0.swl", INNER),
-            ("d/t-0.1-0.1.swl", INNER),
-            ("d/t-0.2.swl", &two),
-            ("d/t-0.3.swl", &three),
-        ],
-        others: &[],
-    };
-    folder_of(alloc, &files)
+    let mut folder = MemFolder::new(alloc)?;
+    folder.hold("d/t.swl", &log_of(alloc, ROOT)?)?;
+    folder.hold("d/t-0.1-0.0.swl", &log_of(alloc, INNER)?)?;
+    folder.hold("d/t-0.1-0.1.swl", &log_of(alloc, INNER)?)?;
+    let zero = hold_lane(alloc, &mut folder, "d/t-0.0.swl", &lanes[0])?;
+    let one = hold_lane(alloc, &mut folder, "d/t-0.1.swl", &lanes[1])?;
+    let two = hold_lane(alloc, &mut folder, "d/t-0.2.swl", &lanes[2])?;
+    let three = hold_lane(alloc, &mut folder, "d/t-0.3.swl", &lanes[3])?;
+    let rows: [Row<'static>; 7] = [
+        (&[], 2),
+        (&[(0, 0, 4)], zero),
+        (&[(0, 1, 4)], one),
+        (&[(0, 1, 4), (0, 0, 2)], 2),
+        (&[(0, 1, 4), (0, 1, 2)], 2),
+        (&[(0, 2, 4)], two),
+        (&[(0, 3, 4)], three),
+    ];
+    folder.hold("d/index.swi", &index_of(alloc, &rows)?)?;
+    Ok(folder)
 }
 
 // The second lane's log, which forks a team of two lanes.
@@ -124,9 +129,20 @@ fn are_same(some: &[Segment], others: &[Segment]) -> bool {
             .all(|(one, other)| is_same(one, other))
 }
 
-fn told(answer: Result<Option<Vec<Segment>>, WalkFault>) -> Told {
-    match answer {
-        Ok(_) => Told::Good,
+// What is told of the folder by so many workers.
+fn told_by<R: Threads + Sync>(rt: &R, alloc: Global, folder: &mut MemFolder, workers: usize) -> Told
+    requires { 1 ≤ workers }
+{
+    match by(rt, alloc, folder, workers) {
+        Ok(_found) => Told::Good,
+        Err(fault) => fault_told(&fault),
+    }
+}
+
+// What is told of it one log after another.
+fn told_alone(alloc: Global, folder: &mut MemFolder) -> Told {
+    match alone(alloc, folder) {
+        Ok(_found) => Told::Good,
         Err(fault) => fault_told(&fault),
     }
 }
@@ -134,11 +150,11 @@ fn told(answer: Result<Option<Vec<Segment>>, WalkFault>) -> Told {
 // Whether each number of workers tells this of the folder, as it is told of one log after another.
 fn is_told<R: Threads + Sync>(rt: &R, alloc: Global, folder: &mut MemFolder, due: Told) -> bool {
     for workers in [1, 2, 4, 64] {
-        if told(by(rt, alloc, folder, workers)) != due {
+        if told_by(rt, alloc, folder, workers) != due {
             return false;
         }
     }
-    told(alone(alloc, folder)) == due
+    told_alone(alloc, folder) == due
 }
 
 fn give_the_same<R: Threads + Sync>(
@@ -222,7 +238,7 @@ const MANY: Lane = Lane {
 fn a_segment_too_many_beside_others_is_told(rt: HostRuntime) -> Result<(), Fail> {
     // The lanes before the last have 17,001 segments, 17,000 and 17,001, and the inner ones two.
     let mut folder = team(rt.alloc(), &[MANY, forking(MANY), MANY, MANY])?;
-    assert!(rt; told(by(&rt, rt.alloc(), &mut folder, 4)) == Told::TooMany(4, 29_065));
+    assert!(rt; told_by(&rt, rt.alloc(), &mut folder, 4) == Told::TooMany(4, 29_065));
     Ok(())
 }
 
@@ -238,7 +254,7 @@ fn first_untold<R: Threads + Sync>(
     for call in 1..100 {
         let mut folder = team(alloc, lanes)?;
         folder.fail(&[call])?;
-        if told(by(rt, alloc, &mut folder, workers)) != Told::ReadFault {
+        if told_by(rt, alloc, &mut folder, workers) != Told::ReadFault {
             return Ok(call);
         }
     }

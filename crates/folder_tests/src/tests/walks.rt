@@ -126,7 +126,7 @@ fn walked<F: Folder>(alloc: Global, folder: &mut F, dir: &str) -> Told {
     }
 }
 
-fn log_of(alloc: Global, records: &[Rec]) -> Result<Vec<u8>, AllocError> {
+pub fn log_of(alloc: Global, records: &[Rec]) -> Result<Vec<u8>, AllocError> {
     let mut log = Vec::from_slice(alloc, &LOG_HEADER)?;
     for (kind, size, line, address, value) in records {
         log.extend_from_slice(&[*kind, *size, 0, 0, 0, 0, 0, *line])?;
@@ -146,7 +146,7 @@ fn spell_row(index: &mut Vec<u8>, row: &Row<'_>) -> Result<(), AllocError> {
     index.extend_from_slice(&u64::from(*records).to_be_bytes())
 }
 
-fn index_of(alloc: Global, rows: &[Row<'_>]) -> Result<Vec<u8>, AllocError> {
+pub fn index_of(alloc: Global, rows: &[Row<'_>]) -> Result<Vec<u8>, AllocError> {
     let mut index = Vec::from_slice(alloc, &INDEX_HEADER)?;
     for row in rows {
         spell_row(&mut index, row)?;
