@@ -61,7 +61,7 @@ fn hold_lane(
 ) -> Result<u32, Memory> {
     let records = records_of(alloc, lane)?;
     folder.hold(name, &log_of(alloc, &records)?)?;
-    Ok(records.len() as u32)
+    Ok(records.len().min(u32::MAX as usize) as u32)
 }
 
 // The folder of a team of these lanes, the second of which forks another team where its last record is a fork of two lanes.
