@@ -1,10 +1,11 @@
 #!/usr/bin/env python3
 """Runs random small kernels, and compares what `sword` does with a plain second program (plain/kernels.rs) that follows docs/KERNELS.md.
 
-For each number N from the seed on: a random kernel is run with buffers of some size. What it prints and leaves must be a run by the definitions: each
-log the trace of its task, each chunk drawn once, a legal history of all accesses that ends in the sums, or the stop that is due; `check` prints
-the races that a search of the graph of edges finds, and `replay` prints `same`. Of a damaged copy of the folder `replay`, `check` and `show` say the
-same as the plain program. Then of a changed text `run` says the same: its refusal, or that it is a kernel.
+For each number N from the seed on: a random kernel is run by `run` and by `live`, each with buffers of some size. What they print and leave must be a
+run by the definitions: each log the trace of its task, each chunk drawn once, a legal history of all accesses that ends in the sums, or the stop that
+is due; `check` prints the races that a search of the graph of edges finds, and `replay` prints `same`. `certify` prints what a serial run tells. Of
+a damaged copy of the folder `replay`, `check` and `show` say the same as the plain program. Then of a changed text `run` says the same: its refusal,
+or that it is a kernel.
 
 What differs is printed with its number, and kept in the folder that is named; the exit status is then 1.
 
@@ -75,20 +76,19 @@ class Soak:
         shutil.copytree(self.place, kept, dirs_exist_ok=True)
         return False
 
-    def run(self, number, size):
-        """Runs a random kernel; whether it left a whole folder."""
+    def run(self, number, command, size):
+        """Runs the kernel; whether it left a whole folder."""
         kernel, folder, out = self.path("kernel"), self.path("run"), self.path("out")
         shutil.rmtree(folder, ignore_errors=True)
-        self.plain.ask("make", number, kernel)
-        status, text = self.ask("run", kernel, folder, size)
+        status, text = self.ask(command, kernel, folder, size)
         with open(out, "w") as file:
             file.write(text)
         answer = self.plain.ask("ran", kernel, folder, out, status)
-        self.seen[f"runs with status {status}"] += 1
+        self.seen[f"{command} with status {status}"] += 1
         if answer[0] == 2:
             self.seen["histories not found, too many states"] += 1
         else:
-            self.compare(number, "run", (0, "well\n"), answer)
+            self.compare(number, command, (0, "well\n"), answer)
         if status == 5:
             self.compare(number, "check", (4, "no index\n"), self.ask("check", folder, 1))
         return status == 0
@@ -100,6 +100,16 @@ class Soak:
         due = self.plain.ask("check", folder)
         self.seen[f"checks with status {due[0]}"] += 1
         self.compare(number, "check", due, self.ask("check", folder, workers))
+
+    def certify(self, number):
+        kernel = self.path("kernel")
+        due, found = self.plain.ask("certify", kernel), self.ask("certify", kernel)
+        if due[0] == 8:
+            self.seen["verdicts not found, too many records"] += 1
+            return
+        words = [word for word in due[1].split("uncertain: ")[-1].split() if word.isalpha()]
+        self.seen[f"verdicts: {words[0]}"] += 1
+        self.compare(number, "certify", due, found)
 
     def damage(self, number):
         kernel, folder, new = self.path("kernel"), self.path("run"), self.path("damaged")
@@ -125,10 +135,13 @@ class Soak:
 
     def number(self, number):
         draw = random.Random(number)
-        size = draw.choice([24, 25, 47, 48, 72, 100, 256, 4096, 65536, 4194304])
-        if self.run(number, size):
-            self.judge(number, draw.choice([1, 2, 4]))
-            self.damage(number)
+        self.plain.ask("make", number, self.path("kernel"))
+        for command in ["run", "live"]:
+            size = draw.choice([24, 25, 47, 48, 72, 100, 256, 4096, 65536, 4194304])
+            if self.run(number, command, size):
+                self.judge(number, draw.choice([1, 2, 4]))
+                self.damage(number)
+        self.certify(number)
         self.change(number)
 
 

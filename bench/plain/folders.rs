@@ -1,9 +1,9 @@
 //! A second checker of folders, plain and slow, that follows docs/FORMATS.md and docs/MODEL.md and shares no code with the program: rules are
 //! tried one by one, and happens-before is reachability in the graph of its edges. It makes random small folders, damages some of them, and
-//! compares what `check`, `show`, `explain` and `confirm` of the program print, and their status, with what it finds itself.
+//! compares what `check`, `show`, `explain`, `confirm` and `upgrade` of the program print and leave, and their status, with what it finds itself.
 //!
 //!     rustc -O -o /tmp/folders bench/plain/folders.rs
-//!     /tmp/folders SWORD SEED COUNT          compares so many folders, made in a memory file system
+//!     /tmp/folders SWORD SEED COUNT          compares so many folders, made in a memory file system, a third of them of the first format
 //!     /tmp/folders WORD DIR ..               answers check, show, explain or confirm itself
 //!     /tmp/folders make DIR SEED             makes one such folder
 use std::collections::{BTreeSet, HashMap};
@@ -13,7 +13,6 @@ use std::process::Command;
 use std::{env, fs, process};
 
 pub const INDEX: &[u8; 8] = b"SWIDX002";
-const OLD_INDEX: &[u8; 8] = b"SWIDX001";
 pub const LOG: &[u8; 8] = b"SWLOG002";
 const ROWS: usize = 65_536;
 const RECORDS: u64 = 4_194_304;
@@ -41,6 +40,18 @@ pub const REGION: u8 = 6;
 pub const CHUNK: u8 = 7;
 pub const END: u8 = 8;
 pub const UPDATE: u8 = 9;
+
+/// What is a format's own: how its files begin, what an index must not begin with, and the last kind of record.
+#[derive(Clone, Copy)]
+struct Format {
+    index: &'static [u8; 8],
+    log: &'static [u8; 8],
+    older: Option<&'static [u8; 8]>,
+    last_kind: u8,
+}
+
+const FIRST: Format = Format { index: b"SWIDX001", log: b"SWLOG001", older: None, last_kind: END };
+const SECOND: Format = Format { index: INDEX, log: LOG, older: Some(b"SWIDX001"), last_kind: UPDATE };
 
 impl Record {
     pub fn is_access(&self) -> bool {
@@ -118,11 +129,11 @@ fn row_fault(bytes: &[u8], rows: &[Row]) -> Result<Row, &'static str> {
     Ok(Row { path, records })
 }
 
-fn read_index(bytes: &[u8]) -> Result<Vec<Row>, (usize, &'static str)> {
-    if bytes.starts_with(OLD_INDEX) {
+fn read_index(bytes: &[u8], format: Format) -> Result<Vec<Row>, (usize, &'static str)> {
+    if format.older.is_some_and(|older| bytes.starts_with(older)) {
         return Err((0, "Old"));
     }
-    if !bytes.starts_with(INDEX) {
+    if !bytes.starts_with(format.index) {
         return Err((0, "Header"));
     }
     let mut rows: Vec<Row> = Vec::new();
@@ -147,6 +158,10 @@ fn read_index(bytes: &[u8]) -> Result<Vec<Row>, (usize, &'static str)> {
 // The logs.
 
 pub fn decode(bytes: &[u8]) -> Result<Record, &'static str> {
+    decode_as(bytes, SECOND)
+}
+
+fn decode_as(bytes: &[u8], format: Format) -> Result<Record, &'static str> {
     let record = Record {
         kind: bytes[0],
         size: bytes[1],
@@ -156,7 +171,7 @@ pub fn decode(bytes: &[u8]) -> Result<Record, &'static str> {
         value: number(&bytes[16..24]),
     };
     let (addr, value, nothing) = (record.addr, record.value, record.site == 0);
-    if !(READ..=UPDATE).contains(&record.kind) {
+    if !(READ..=format.last_kind).contains(&record.kind) {
         return Err("Kind");
     }
     if !(if record.is_access() { matches!(record.size, 1 | 2 | 4 | 8) } else { record.size == 0 }) {
@@ -233,7 +248,7 @@ fn record_fault(record: &Record, before: &[Record], row: &Row, spans: &[u64], fi
 
 pub type Logs = Vec<(Vec<Step>, Vec<Record>)>;
 
-fn read_logs(files: &Files, rows: &[Row]) -> Result<Logs, String> {
+fn read_logs(files: &Files, rows: &[Row], format: Format) -> Result<Logs, String> {
     let (mut logs, mut segments) = (Logs::new(), 0);
     for row in rows {
         let name = name_of(&row.path);
@@ -241,7 +256,7 @@ fn read_logs(files: &Files, rows: &[Row]) -> Result<Logs, String> {
             return Err(format!("missing log {name}\n"));
         };
         let bad = |at: usize, why: &str| Err(format!("bad log {name} record {at}: {why}\n"));
-        if !bytes.starts_with(LOG) {
+        if !bytes.starts_with(format.log) {
             return bad(0, "Header");
         }
         let spans = listed(rows, &row.path);
@@ -256,7 +271,7 @@ fn read_logs(files: &Files, rows: &[Row]) -> Result<Logs, String> {
             if rest.len() < 24 {
                 return bad(at, "Cut");
             }
-            let record = match decode(&rest[..24]) {
+            let record = match decode_as(&rest[..24], format) {
                 Ok(record) => record,
                 Err(why) => return bad(at, why),
             };
@@ -281,11 +296,15 @@ fn read_logs(files: &Files, rows: &[Row]) -> Result<Logs, String> {
 }
 
 pub fn read_folder(files: &Files) -> Result<Logs, String> {
+    read_folder_as(files, SECOND)
+}
+
+fn read_folder_as(files: &Files, format: Format) -> Result<Logs, String> {
     let Some(index) = files.get("index.swi") else {
         return Err("no index\n".to_string());
     };
-    let rows = read_index(index).map_err(|(row, why)| format!("bad index row {row}: {why}\n"))?;
-    read_logs(files, &rows)
+    let rows = read_index(index, format).map_err(|(row, why)| format!("bad index row {row}: {why}\n"))?;
+    read_logs(files, &rows, format)
 }
 
 // Races.
@@ -471,6 +490,22 @@ pub fn show(files: &Files) -> (i32, String) {
     (0, text)
 }
 
+/// What `upgrade` of a folder to another prints, and what it leaves of the other.
+fn upgrade(files: &Files, new: &Files) -> (i32, String, Files) {
+    if new.contains_key("index.swi") {
+        return (9, "index exists\n".to_string(), new.clone());
+    }
+    let logs = match read_folder_as(files, FIRST) {
+        Ok(logs) => logs,
+        Err(text) => return (4, text, new.clone()),
+    };
+    let mut left = new.clone();
+    let mut bring = |name: String, header: &[u8]| left.insert(name.clone(), [header, &files[&name][8..]].concat());
+    bring("index.swi".to_string(), INDEX);
+    logs.iter().for_each(|(path, _)| drop(bring(name_of(path), LOG)));
+    (0, format!("upgraded {}\n", logs.len()), left)
+}
+
 // Random folders.
 
 pub struct Random(u64);
@@ -552,14 +587,18 @@ pub fn row_bytes(path: &[Step], records: u64) -> Vec<u8> {
     bytes
 }
 
-fn random_folder(random: &mut Random) -> Files {
+fn random_folder(random: &mut Random, format: Format) -> Files {
     let mut logs = Logs::new();
     task(random, &[], 0, &mut logs);
-    let mut index = INDEX.to_vec();
+    // In the first format a record of a later kind is a fault, which one folder of ten may have.
+    if format.last_kind < UPDATE && !random.is_one_in(10) {
+        logs.iter_mut().flat_map(|(_, records)| records).filter(|record| record.kind == UPDATE).for_each(|record| record.kind = WRITE);
+    }
+    let mut index = format.index.to_vec();
     let mut files = Files::new();
     for (path, records) in &logs {
         index.extend(row_bytes(path, records.len() as u64));
-        let mut bytes = LOG.to_vec();
+        let mut bytes = format.log.to_vec();
         records.iter().for_each(|record| bytes.extend(record.bytes()));
         files.insert(name_of(path), bytes);
     }
@@ -626,40 +665,119 @@ pub fn ask(sword: &str, words: &[&str]) -> (i32, String) {
     (output.status.code().unwrap_or(-1), String::from_utf8_lossy(&output.stdout).into_owned())
 }
 
+/// A folder's place in memory, removed in the end.
+struct Place(std::path::PathBuf);
+
+impl Place {
+    fn new(name: &str) -> Self {
+        Place(Path::new("/dev/shm").join(format!("folders-{name}-{}", process::id())))
+    }
+
+    fn name(&self) -> &str {
+        self.0.to_str().unwrap()
+    }
+}
+
+impl Drop for Place {
+    fn drop(&mut self) {
+        let _ = fs::remove_dir_all(&self.0);
+    }
+}
+
+/// What a folder is asked for: the words, and what is due.
+fn asked(random: &mut Random, files: &Files, folder: &str) -> Vec<(Vec<String>, (i32, String))> {
+    let number = |random: &mut Random, count: u64| 1 + random.below(count);
+    let (workers, low) = (number(random, 4), number(random, 6));
+    let high = low + random.below(3);
+    let record = |random: &mut Random| (number(random, 8), number(random, 12));
+    let (one, other) = (record(random), record(random));
+    let words = |word: &str, numbers: &[u64]| {
+        let numbers = numbers.iter().map(u64::to_string);
+        [word.to_string(), folder.to_string()].into_iter().chain(numbers).collect::<Vec<String>>()
+    };
+    let at = |(row, number): (u64, u64)| (row as usize, number as usize);
+    vec![
+        (words("check", &[workers]), check(files)),
+        (words("show", &[]), show(files)),
+        (words("explain", &[low, high]), explain(files, low as u32, high as u32)),
+        (words("confirm", &[one.0, one.1, other.0, other.1]), confirm(files, at(one), at(other))),
+    ]
+}
+
+/// A folder to upgrade to: most often there is none, or it has a log that is in the way, or an index.
+fn new_folder(random: &mut Random) -> Files {
+    let mut new = Files::new();
+    match random.below(8) {
+        0 => drop(new.insert("index.swi".to_string(), INDEX[..random.below(9) as usize].to_vec())),
+        1 => drop(new.insert("t.swl".to_string(), vec![7; random.below(200) as usize])),
+        _ => {}
+    }
+    new
+}
+
 fn compare(sword: &str, seed: u64, count: u64) -> bool {
-    let place = Path::new("/dev/shm").join(format!("folders-{}", process::id()));
-    let folder = place.to_str().unwrap();
+    let (place, new_place) = (Place::new("old"), Place::new("new"));
     let mut random = Random::new(seed);
-    let mut seen: HashMap<i32, u64> = HashMap::new();
+    let (mut seen, mut calls): (std::collections::BTreeMap<(String, i32), u64>, u64) = Default::default();
+    let mut tell = |number: u64, words: &[&str], due: &(i32, String)| {
+        let found = ask(sword, words);
+        calls += 1;
+        *seen.entry((words[0].to_string(), due.0)).or_default() += 1;
+        let is_due = found == *due;
+        if !is_due {
+            println!("folder {number} of seed {seed} differs: {words:?}\ndue {due:?}\nfound {found:?}");
+        }
+        is_due
+    };
     for number in 0..count {
-        let mut files = random_folder(&mut random);
+        let format = if random.is_one_in(3) { FIRST } else { SECOND };
+        let mut files = random_folder(&mut random, format);
         for _ in 0..[0, 0, 1, 1, 2][random.below(5) as usize] {
             damage(&mut random, &mut files);
         }
-        write_folder(&place, &files);
-        let workers = (1 + random.below(4)).to_string();
-        let one = 1 + random.below(6) as u32;
-        let other = one + random.below(3) as u32;
-        let mut record = || (1 + random.below(8) as usize, 1 + random.below(12) as usize);
-        let (first, second) = (record(), record());
-        let words = [one.to_string(), other.to_string()];
-        let places = [first.0, first.1, second.0, second.1].map(|number| number.to_string());
-        let due = [check(&files), show(&files), explain(&files, one, other), confirm(&files, first, second)];
-        let found = [
-            ask(sword, &["check", folder, &workers]),
-            ask(sword, &["show", folder]),
-            ask(sword, &["explain", folder, &words[0], &words[1]]),
-            ask(sword, &["confirm", folder, &places[0], &places[1], &places[2], &places[3]]),
-        ];
-        if due != found || read_files(&place) != files {
-            println!("folder {number} of seed {seed} differs, kept in {folder}\ndue {due:?}\nfound {found:?}");
+        write_folder(&place.0, &files);
+        let mut is_well = true;
+        if format.last_kind == UPDATE {
+            for (words, due) in asked(&mut random, &files, place.name()) {
+                is_well &= tell(number, &words.iter().map(String::as_str).collect::<Vec<&str>>(), &due);
+            }
+        }
+        if format.last_kind != UPDATE || random.is_one_in(50) {
+            let new = new_folder(&mut random);
+            let _ = fs::remove_dir_all(&new_place.0);
+            if !new.is_empty() {
+                write_folder(&new_place.0, &new);
+            }
+            let (status, text, left) = upgrade(&files, &new);
+            is_well &= tell(number, &["upgrade", place.name(), new_place.name()], &(status, text));
+            is_well &= tell(number, &["check", new_place.name(), "2"], &check(&left)) && read_files(&new_place.0) == left;
+        }
+        if !is_well || read_files(&place.0) != files {
+            write_folder(Path::new("differs"), &files);
+            println!("folder {number} of seed {seed} differs, kept in differs");
             return false;
         }
-        *seen.entry(due[0].0).or_default() += 1;
     }
-    let _ = fs::remove_dir_all(&place);
-    println!("{count} folders of seed {seed}: no difference; by status {seen:?}");
+    println!("{count} folders of seed {seed}, {calls} commands: no difference; none took more than {} KiB", most_memory());
+    seen.iter().for_each(|((word, status), count)| println!("  {count} times {word} with status {status}"));
     true
+}
+
+/// The most memory that a command took, in KiB.
+fn most_memory() -> i64 {
+    #[repr(C)]
+    struct Usage {
+        times: [i64; 4],
+        most: i64,
+        others: [i64; 13],
+    }
+    extern "C" {
+        fn getrusage(who: i32, usage: *mut Usage) -> i32;
+    }
+    let mut usage = Usage { times: [0; 4], most: 0, others: [0; 13] };
+    // SAFETY: the struct has the layout of `struct rusage` on 64-bit Linux; -1 asks for the children that ended.
+    unsafe { getrusage(-1, &mut usage) };
+    usage.most
 }
 
 /// What this program itself answers to words of `sword`.
@@ -682,7 +800,7 @@ fn main() {
         process::exit(status);
     }
     match words[..] {
-        ["make", folder, seed] => write_folder(Path::new(folder), &random_folder(&mut Random::new(seed.parse().unwrap()))),
+        ["make", folder, seed] => write_folder(Path::new(folder), &random_folder(&mut Random::new(seed.parse().unwrap()), SECOND)),
         [sword, seed, count] => process::exit(i32::from(!compare(sword, seed.parse().unwrap(), count.parse().unwrap()))),
         _ => process::exit(2),
     }

@@ -38,6 +38,15 @@ impl World {
 
 /// The logs of a run in some order of the steps, and what it leaves. At most so many records are made.
 pub fn run(kernel: &Kernel, random: &mut Random, most: usize) -> Option<(Logs, World)> {
+    run_by(kernel, most, &mut |ready| random.below(ready as u64) as usize)
+}
+
+/// The same of a serial run, in which of all tasks that may go on the first one by its path does.
+pub fn run_in_turn(kernel: &Kernel, most: usize) -> Option<(Logs, World)> {
+    run_by(kernel, most, &mut |_| 0)
+}
+
+fn run_by(kernel: &Kernel, most: usize, choose: &mut dyn FnMut(usize) -> usize) -> Option<(Logs, World)> {
     let (mut logs, mut world): (Logs, World) = (vec![(Vec::new(), Vec::new())], World::default());
     for _ in 0..most {
         let all = tasks(kernel, &logs);
@@ -46,7 +55,7 @@ pub fn run(kernel: &Kernel, random: &mut Random, most: usize) -> Option<(Logs, W
         stopped.for_each(|log| world.holders.retain(|_, holder| *holder != logs[log].0));
         let mut put = None;
         while put.is_none() && !ready.is_empty() {
-            let log = ready.swap_remove(random.below(ready.len() as u64) as usize);
+            let log = ready.swap_remove(choose(ready.len()));
             put = world.next(&logs[log].0, &all[log].0).map(|record| (log, record));
         }
         let Some((log, record)) = put else {

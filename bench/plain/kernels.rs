@@ -8,6 +8,7 @@
 //!     kernel FILE                 the refusal of a text, or `kernel`
 //!     replay FILE DIR             what `replay` prints
 //!     ran FILE DIR OUT STATUS     whether a `run` of the kernel that printed the file OUT and left the folder is one by the definitions
+//!     certify FILE                what `certify` prints
 //!     run FILE DIR SEED           runs a kernel itself, slowly, with the steps of its tasks in some order
 //!     make SEED FILE              makes a kernel
 //!     change SEED FILE            makes a text that is perhaps no kernel
@@ -34,7 +35,7 @@ use std::{env, fs, io, process};
 
 use folders::{Files, Logs, Random, Record};
 use kernel_histories::Found;
-use kernel_text::Kernel;
+use kernel_text::{Block, Kernel, Schedule, Stmt};
 use kernel_traces::Halt;
 
 fn read(file: &str) -> Vec<u8> {
@@ -122,6 +123,36 @@ fn run(kernel: &Kernel, folder: &str, seed: &str) -> (i32, String) {
     stop.map_or_else(|| (0, sums(kernel, &logs, &world.memory)), |stop| (5, stop))
 }
 
+/// The line of the first critical section, atomic update or loop whose chunks are drawn.
+fn construct(block: &Block) -> Option<u32> {
+    block.body.iter().find_map(|statement| match statement {
+        Stmt::Update(element, ..) => Some(element.line),
+        Stmt::Critical(line, ..) => Some(*line),
+        Stmt::For(share) if matches!(share.schedule, Schedule::Dynamic(..)) => Some(share.line),
+        Stmt::If(_, one, other) => construct(one).or_else(|| other.as_ref().and_then(construct)),
+        Stmt::Loop(_, body) | Stmt::Parallel(_, _, body) => construct(body),
+        Stmt::For(share) => construct(&share.block),
+        _ => None,
+    })
+}
+
+/// The verdict on a kernel, which gives up at 500 records.
+fn certify(kernel: &Kernel) -> (i32, String) {
+    if let Some(line) = construct(&kernel.main) {
+        return (1, format!("uncertain: construct line {line}\n"));
+    }
+    let Some((logs, world)) = kernel_runs::run_in_turn(kernel, 500) else {
+        return (8, String::new());
+    };
+    let (files, stop) = kernel_runs::files(kernel, &logs);
+    let verdict = stop.map_or_else(|| folders::check(&files), |stop| (1, stop));
+    match verdict {
+        (0, _) => (0, format!("certain\n{}", sums(kernel, &logs, &world.memory))),
+        (_, text) if text.starts_with("race") => (1, format!("{text}uncertain: races\n")),
+        (_, text) => (1, format!("uncertain: {text}")),
+    }
+}
+
 fn ran(kernel: &Kernel, folder: &str, out: &str, status: &str) -> (i32, String) {
     let (files, out) = (folders::read_files(Path::new(folder)), String::from_utf8_lossy(&read(out)).into_owned());
     match status {
@@ -175,7 +206,8 @@ fn answer(words: &[&str]) -> (i32, String) {
     match words {
         ["kernel", file] => of_kernel(file, &|_| (0, "kernel\n".to_string())),
         ["replay", file, folder] => of_kernel(file, &|kernel| kernel_traces::replay(kernel, &folders::read_files(Path::new(folder)))),
-        ["run", file, folder, seed] => of_kernel(file, &|kernel| run(kernel, folder, seed)),
+        ["certify", file] => of_kernel(file, &certify),
+        ["run" | "live", file, folder, seed] => of_kernel(file, &|kernel| run(kernel, folder, seed)),
         ["ran", file, folder, out, status] => of_kernel(file, &|kernel| ran(kernel, folder, out, status)),
         ["make", seed, file] => write(file, random_kernels::kernel(&mut random(seed))),
         ["change", seed, file] => write(file, random_kernels::changed(&mut random(seed))),

@@ -42,6 +42,8 @@ struct Maker<'a> {
     left: u64,
     /// How rarely something may stop a task.
     rarely: u64,
+    /// Whether it has no construct by which the order of lanes decides more than what they read.
+    is_fixed: bool,
 }
 
 impl Maker<'_> {
@@ -63,6 +65,9 @@ impl Maker<'_> {
         let inside: Vec<String> =
             self.scope.iter().filter(|variable| variable.below.is_some_and(|below| below <= count)).map(|variable| variable.name.clone()).collect();
         let rarely = self.rarely;
+        if self.is_fixed && place.span <= count && self.pick(8) > 0 {
+            return self.say("tid");
+        }
         match self.pick(8) {
             _ if self.pick(rarely) == 0 => match self.pick(3) {
                 0 => self.say("- 1"),
@@ -166,7 +171,7 @@ impl Maker<'_> {
         let inner = Place { depth: place.depth + 1, ..place.clone() };
         match self.pick(20) {
             0 | 1 => self.assign(place),
-            2 | 3 => self.update(place),
+            2 | 3 if !self.is_fixed => self.update(place),
             4 => {
                 self.say("if");
                 self.expr(1, place);
@@ -180,7 +185,7 @@ impl Maker<'_> {
             7..=9 if place.regions < 3 && place.mutex == 0 && place.lanes <= 4 => self.region(inner),
             10..=12 if place.meets => self.share(inner),
             13 if place.meets => self.say("barrier"),
-            14 | 15 if place.mutex <= self.mutexes => self.section(inner),
+            14 | 15 if place.mutex <= self.mutexes && !self.is_fixed => self.section(inner),
             _ => self.store(place),
         }
     }
@@ -246,7 +251,7 @@ impl Maker<'_> {
             _ => (format!("0 .. {count}"), Some(count)),
         };
         self.say(&format!("for {name} in {text}"));
-        let schedule = ["", "static", "static 1", "static 2", "dynamic", "dynamic 1", "dynamic 2", "dynamic 3"][self.pick(8) as usize];
+        let schedule = ["", "static", "static 1", "static 2", "dynamic", "dynamic 1", "dynamic 2", "dynamic 3"][self.pick(if self.is_fixed { 4 } else { 8 }) as usize];
         self.say(schedule);
         if self.pick(3) == 0 {
             self.say("nowait");
@@ -269,7 +274,8 @@ impl Maker<'_> {
 fn words(random: &mut Random) -> Vec<String> {
     let rarely = [20, 400, 400, 100_000][random.below(4) as usize];
     let left = 4 + random.below(14);
-    let mut maker = Maker { random, words: Vec::new(), arrays: Vec::new(), mutexes: 0, scope: Vec::new(), fresh: 0, left, rarely };
+    let is_fixed = random.is_one_in(3);
+    let mut maker = Maker { random, words: Vec::new(), arrays: Vec::new(), mutexes: 0, scope: Vec::new(), fresh: 0, left, rarely, is_fixed };
     for number in 0..1 + maker.pick(3) {
         let (name, count) = (format!("a{number}"), 1 + maker.pick(6));
         let width = ["i8", "i16", "i32", "i64", "i64"][maker.pick(5) as usize];
