@@ -226,6 +226,9 @@ fn go_and_fill<R: Threads + Sync, F: Folder>(
     ensures same { F.state folder.new ≡ F.state folder.old }
     ensures cause { HasCause (F.read_faults folder.old) (F.read_faults folder.new) result }
 {
+    if are_idle(going) {
+        return fill_all(alloc, format, folder, filling, batch);
+    }
     let mut go = ||
         requires workers { 1 ≤ workers }
         requires so { (told : Option Content) × (dir : List ℕ) × (rows : List Row) × All (IsSlot format told dir rows) going.now }
