@@ -185,7 +185,6 @@ fn go_all<R: Threads + Sync>(
 )
     requires workers { 1 ≤ workers }
     requires so { (told : Option Content) × (dir : List ℕ) × (rows : List Row) × All (IsSlot format told dir rows) slots.old }
-    ensures count { length slots.new ≡ length slots.old }
     ensures goes { (told : Option Content) (dir : List ℕ) (rows : List Row) → All (IsSlot format told dir rows) slots.old → All (IsSlot format told dir rows) slots.new }
 {
     thread::for_each_mut(
