@@ -8,10 +8,9 @@ use Rattle.race_model.specs.Race.{IsAccess, IsRace, IsRacePair}
 use Rattle.race_model.specs.Trace.{Trace, Node, IsThere, record_at, logs_of}
 use Rattle.race_laws.proofs.ProgramOrder.{program_order}
 use Rattle.certainty_model.specs.Certain.{IsRun, IsCertain}
-use Rattle.certainty_model.proofs.CertainRuns.{only_run}
 use Rattle.certainty_cases.specs.Examples.{CertainKernel, KernelOfTwoRuns}
 use Rattle.certainty_cases.proofs.TwoLanes.{lane_path}
-use Rattle.certainty_cases.proofs.CopyingLanes.{kernel, is_fixed, lawful, second_log, tasks_of, own_run, values, not_same, two_runs}
+use Rattle.certainty_cases.proofs.CopyingLanes.{kernel, is_fixed, lawful, tasks_of, own_run, two_runs}
 use Rattle.certainty_cases.proofs.Accesses.{each_access}
 
 abbrev tasks : Trace
@@ -57,11 +56,6 @@ no_race pair p = by (spot p.x p.r p.race.left p.race.left_access) (spot p.y p.s 
 
 certain : IsCertain (kernel false 1) tasks
 certain = record { fixed = is_fixed 1; run = own_run; no_race = no_race }
-
--- so lane 1 finds 0 in every run, and no logs in which it finds anything else are those of a run
-finds_nothing_else : (found : ℕ) (other : Trace) → 0 < found → logs_of other (lane_path 1) ≡ second_log false 1 found → IsRun (kernel false 1) other → ⊥
-finds_nothing_else found other some logs is_run =
-    not_same 0 (values (second_log false 1 found)) (ap values (sym ((only_run (kernel false 1) (lawful false 1 (omega arith)) tasks certain other is_run).logs (lane_path 1)) ∙ logs)) (omega arith)
 
 pub certain_kernel : CertainKernel
 certain_kernel = record { program = kernel false 1; lawful = lawful false 1 (omega arith); run = tasks; certain = certain }

@@ -1,7 +1,6 @@
 -- Kernels of two lanes: lane 0 writes a[0] = 1, and lane 1 copies an element to a[1]; both in critical sections of one mutex, or not.
 -- array a i64 2 / mutex m / main { parallel 2 { / if tid == 0 { a[0] = 1 } else { a[1] = a[SOURCE] } / } }
 use Rattle.std.proofs.Common.{◌≡◌, refl, ap, ℕ, ◌+◌, ◌*◌, ◌<◌, Bool, true, false, List, [], ◌∷◌, ◌++◌, pos, arith, rules}
-use Rattle.std.specs.Prelude.{take}
 use Rattle.kernel_syntax.specs.declared.syntax.Op.TheVariants.{Eq}
 use Rattle.kernel_syntax.specs.Layout.{laid}
 use Rattle.kernel_syntax.specs.Program.{Program}
@@ -18,7 +17,7 @@ use Rattle.kernel_model.specs.Trace.{run, draw, task}
 use Rattle.kernel_model.specs.Value.{value, read}
 use Rattle.step_history.specs.declared.item.Item.{Item}
 use Rattle.step_history.specs.declared.item.Deed.TheVariants as deed
-use Rattle.step_history.specs.History.{Name, item, value_at, HasHistory}
+use Rattle.step_history.specs.History.{Name, item, HasHistory}
 use Rattle.history_model.specs.Work.{Work}
 use Rattle.history_model.specs.Did.{did}
 use Rattle.certainty_model.specs.Certain.{IsFixed, IsRun, AreSame}
@@ -118,12 +117,8 @@ copy_serially : (locked : Bool) → HasHistory (in_turn locked 0 1) (memory 1)
 copy_serially true = serial_history layout.word (work_of true 0 1) (memory 1) (search rules) (search rules)
 copy_serially false = serial_history layout.word (work_of false 0 1) (memory 1) (search rules) (search rules)
 
-pub not_same : (m n : ℕ) → m ≡ n → m < n → ⊥
+not_same : (m n : ℕ) → m ≡ n → m < n → ⊥
 not_same m n e less = omega arith
-
--- the serial history of a certain kernel is not its only one
-own_otherwise : second_first false 1 ≡ in_turn false 1 0 → ⊥
-own_otherwise e = not_same 0 1 (ap (λ (items : List Item). value_at 0 (take 3 items)) e) (omega arith)
 
 -- ---- runs
 
@@ -142,7 +137,7 @@ other_run true = lanes_run (kernel true 0) (fork_of true 0) true first_accesses 
 other_run false = lanes_run (kernel false 0) (fork_of false 0) false first_accesses (second_accesses 0 0) 0 refl refl (search rules) (search rules) (search rules) (search rules) (search rules) refl (otherwise false 0)
 
 -- the values that a log tells, all together
-abbrev pub values : List Record → ℕ
+abbrev values : List Record → ℕ
 values [] = 0
 values (r ∷ records) = r.value + values records
 

@@ -15,23 +15,20 @@ use Rattle.history_model.specs.Work.{Work, Rest, Put, Fork, Phases, Phase, NoPha
 use Rattle.history_model.specs.Did.{did}
 use Rattle.history_model.specs.Joined.{IsJoined}
 use Rattle.history_model.specs.Sound.{IsSound, AreFitted}
-use Rattle.execution_model.specs.Execution.{DrewSome, IsExecution}
+use Rattle.execution_model.specs.Execution.{DrewSome}
 use Rattle.execution_model.specs.Runs.{RunsTask, RunsRegions, lane_begin, logged_tasks, region_logs}
 use Rattle.execution_laws.specs.Nesting.{NestsWithin}
-use Rattle.execution_laws.proofs.TaskListing.{are_within}
-use Rattle.execution_laws.proofs.Whole.{execution}
 use Rattle.step_history.specs.History.{HasHistory}
 use Rattle.serial_model.proofs.Legal.{serial_history}
 use Rattle.lane_runner.specs.declared.stop.Stop.TheVariants as stop
 use Rattle.lane_runner.specs.Stopping.{GoesFurther}
-use Rattle.execution_model.specs.Elements.{element_address}
 use Rattle.region_runner.specs.Answer.{EndsTask, IsLeast, StopsIn}
 use Rattle.run_command.specs.Run.{AreStopped}
 use Rattle.execution_cases.specs.TwoLanes.{dir, team_path, size}
 use Rattle.execution_cases.specs.Nested.{inner, inner_path, kernel, logs, outer, tasks}
 use Rattle.execution_cases.proofs.Impossible.{no_more, not_empty}
 use Rattle.execution_cases.proofs.Undrawn.{none_drawn}
-use Rattle.execution_cases.proofs.StoppedRuns.{addresses, are_stopped, both_lanes, ends_last, first_lane, layout}
+use Rattle.execution_cases.proofs.StoppedRuns.{are_stopped, both_lanes, ends_last, executes, first_lane, layout}
 
 -- ---- the tree of work
 
@@ -108,9 +105,6 @@ history = serial_history layout.word work words (search rules) (search rules)
 same_tasks : logged_tasks 2 work ≡ tasks
 same_tasks = refl
 
-executes : IsExecution kernel tasks (element_address kernel.arrays) words
-executes = subst (λ ts. IsExecution kernel ts (element_address kernel.arrays) words) same_tasks (execution kernel layout 2 work sound joined runs (are_within 2 work nests) words words (addresses 0 0) fitted history)
-
 -- ---- where it stopped
 
 ends : EndsTask kernel tasks (inner_path 1) (Stopped state.DivZero 6)
@@ -149,7 +143,7 @@ least (s ∷ t ∷ above) step below is lane less = absurd (not_empty above belo
 
 pub stopped : AreStopped ⊥ kernel dir size logs (inner_path 1) 6 (codes "DivZero")
 stopped =
-    are_stopped kernel tasks words (inner_path 1) (stop.DivZero 6) (Stopped state.DivZero 6) 6 (codes "DivZero") refl refl (λ at is. cc) executes
+    are_stopped kernel tasks words (inner_path 1) (stop.DivZero 6) (Stopped state.DivZero 6) 6 (codes "DivZero") refl refl (λ at is. cc) (executes kernel tasks 2 work 0 0 same_tasks sound joined runs nests fitted history)
     (record { root = Forks (Forks Ends (Lane Ends NoLane) Ends) (Lane Ends NoLane) Ends; lists = refl }) ends least
 
 -- ---- another lane

@@ -1,5 +1,5 @@
 -- The run of two lanes that stopped.
-use Rattle.std.proofs.Common.{◌≡◌, refl, ap, subst, inl, ℕ, ◌<◌, List, [], ◌∷◌, ◌++◌, arith, rules}
+use Rattle.std.proofs.Common.{◌≡◌, refl, ap, inl, ℕ, ◌<◌, List, [], ◌∷◌, ◌++◌, arith, rules}
 use Rattle.std.specs.Prelude.{codes, drop}
 use Rattle.log_format.specs.declared.record.Record.{Record}
 use Rattle.log_format.specs.declared.record.Kind.TheVariants as kind
@@ -20,17 +20,14 @@ use Rattle.history_model.specs.Sound.{IsSound, AreFitted}
 use Rattle.execution_model.specs.Execution.{DrewSome, IsExecution}
 use Rattle.execution_model.specs.Runs.{RunsTask, RunsRegions, lane_begin, logged_tasks, region_logs}
 use Rattle.execution_laws.specs.Nesting.{NestsWithin}
-use Rattle.execution_laws.proofs.TaskListing.{are_within}
-use Rattle.execution_laws.proofs.Whole.{execution}
 use Rattle.step_history.specs.History.{HasHistory}
 use Rattle.serial_model.proofs.Legal.{serial_history}
 use Rattle.lane_runner.specs.declared.stop.Stop.TheVariants as stop
-use Rattle.execution_model.specs.Elements.{element_address}
 use Rattle.region_runner.specs.Answer.{EndsTask, IsLeast}
 use Rattle.run_command.specs.Run.{AreStopped}
 use Rattle.execution_cases.specs.TwoLanes.{accessed, body, dir, first_log, kernel, team_path, logs, second_log, size, tasks, tasks_of}
 use Rattle.execution_cases.proofs.Impossible.{no_more, not_empty}
-use Rattle.execution_cases.proofs.StoppedRuns.{addresses, are_stopped, both_lanes, ends_last, first_lane, layout}
+use Rattle.execution_cases.proofs.StoppedRuns.{are_stopped, both_lanes, ends_last, executes, first_lane, layout}
 use Rattle.execution_cases.proofs.Undrawn.{none_drawn}
 
 -- ---- the tree of work
@@ -93,9 +90,6 @@ same_tasks : logged_tasks 1 work ≡ tasks
 unfolding wrapped
 same_tasks = refl
 
-pub executes : IsExecution kernel tasks (element_address kernel.arrays) words
-executes = subst (λ ts. IsExecution kernel ts (element_address kernel.arrays) words) same_tasks (execution kernel layout 1 work sound joined runs (are_within 1 work nests) words words (addresses 1 1) fitted history)
-
 -- ---- where it stopped
 
 ends : EndsTask kernel tasks (team_path 0) (Stopped state.Index 6)
@@ -108,7 +102,7 @@ least (s ∷ above) step below is lane less = absurd (not_empty above below step
 
 pub stopped : AreStopped ⊥ kernel dir size logs (team_path 0) 6 (codes "Index")
 stopped =
-    are_stopped kernel tasks words (team_path 0) (stop.Index 6) (Stopped state.Index 6) 6 (codes "Index") refl refl (λ at is. cc) executes
+    are_stopped kernel tasks words (team_path 0) (stop.Index 6) (Stopped state.Index 6) 6 (codes "Index") refl refl (λ at is. cc) (executes kernel tasks 1 work 1 1 same_tasks sound joined runs nests fitted history)
     (record { root = Forks Ends (Lane Ends NoLane) Ends; lists = refl }) ends least
 
 -- ---- lanes that went on too early

@@ -6,12 +6,19 @@ use Rattle.log_format.specs.declared.record.Kind.TheVariants as kind
 use Rattle.sw_base.specs.declared.path.Step.{Step}
 use Rattle.race_model.specs.Listing.{IsListing}
 use Rattle.race_model.specs.Trace.{Trace}
+use Rattle.step_history.specs.History.{HasHistory}
 use Rattle.kernel_syntax.specs.Program.{Program}
-use Rattle.kernel_model.specs.Folder.{paths_of}
+use Rattle.kernel_model.specs.Folder.{paths_of, root_start}
 use Rattle.kernel_model.specs.Trace.{Ending}
-use Rattle.history_model.specs.Joined.{LastIsEnd}
-use Rattle.history_model.specs.Sound.{WordLayout, HasAddresses}
+use Rattle.history_model.specs.Work.{Work}
+use Rattle.history_model.specs.Did.{did}
+use Rattle.history_model.specs.Joined.{IsJoined, LastIsEnd}
+use Rattle.history_model.specs.Sound.{WordLayout, IsSound, HasAddresses, AreFitted}
 use Rattle.execution_model.specs.Execution.{IsExecution}
+use Rattle.execution_model.specs.Runs.{RunsTask, logged_tasks}
+use Rattle.execution_laws.specs.Nesting.{NestsWithin}
+use Rattle.execution_laws.proofs.TaskListing.{are_within}
+use Rattle.execution_laws.proofs.Whole.{execution}
 use Rattle.lane_runner.specs.declared.stop.Stop.{Stop}
 use Rattle.lane_runner.specs.declared.stop.Stop.TheVariants as stop
 use Rattle.lane_runner.specs.Stopping.{ending_for}
@@ -29,6 +36,14 @@ pub addresses : (one two : ℕ) → HasAddresses layout (one ∷ two ∷ [])
 addresses one two zero less = (refl, search rules)
 addresses one two (suc zero) less = (refl, search rules)
 addresses one two (suc (suc n)) less = absurd (omega arith)
+
+-- the logs of a tree of work that leaves these two words
+pub executes : (program : Program) (tasks : Trace) (depth : ℕ) (work : Work) (one two : ℕ) → let words : List ℕ = one ∷ two ∷ [] in
+    logged_tasks depth work ≡ tasks → IsSound layout work → IsJoined work → RunsTask program (root_start program) (work ∷ []) → NestsWithin depth work → AreFitted layout words words → HasHistory (did layout.word [] 0 work) words
+    → IsExecution program tasks layout.address words
+executes program tasks depth work one two same sound joined runs nests fitted history =
+    let words : List ℕ = one ∷ two ∷ [] in
+    subst (λ ts. IsExecution program ts layout.address words) same (execution program layout depth work sound joined runs (are_within depth work nests) words words (addresses one two) fitted history)
 
 pub both_lanes : (P : ℕ → Type 0) → P 0 → P 1 → (lane : ℕ) → lane < 2 → P lane
 both_lanes P first second zero less = first

@@ -1,17 +1,20 @@
 -- Two records of a folder that race, named by their rows and numbers.
-use Rattle.std.specs.Prelude.{◌≡◌, ◌⊎◌, ℕ, ◌+◌, ◌≤◌, List, length, Option, Some, None, slice_get}
+use Rattle.std.specs.Prelude.{◌≡◌, ◌⊎◌, ℕ, ◌+◌, ◌≤◌, List, length, Option, Some, None, Result, OnOk, IfErr, slice_get}
 use Rattle.mutex_set.specs.Held.{AreDisjoint}
 use Rattle.sw_base.specs.declared.path.Step.{Step}
-use Rattle.sw_base.specs.Environment.{Content}
+use Rattle.sw_base.specs.Environment.{Content, WhereTold}
 use Rattle.sw_base.specs.Names.{IsUnder}
 use Rattle.log_format.specs.declared.format.TheConstants.{FORMAT}
 use Rattle.log_format.specs.declared.record.Record.{Record}
 use Rattle.log_format.specs.declared.record.Kind.TheVariants.{Update}
-use Rattle.race_model.specs.FirstBad.{HoldsLogs, rows_of}
+use Rattle.race_model.specs.FirstBad.{HoldsLogs, HoldsTrace, rows_of}
 use Rattle.race_model.specs.KeepsRules.{KeepsRules}
 use Rattle.race_model.specs.Race.{IsAccess, IsChange, IsRace, HasByte, held_at}
 use Rattle.race_model.specs.Row.{Row}
 use Rattle.race_model.specs.Trace.{TaskLog, Trace, Logs, Node, IsThere, record_at, logs_of, barriers_before}
+use Rattle.race_model.specs.WellFormed.{IsWellFormed}
+use Rattle.log_walk.specs.Walk.{TellsFirstBad}
+use Rattle.log_walk.specs.declared.fault.WalkFault.{WalkFault}
 use Rattle.explain.specs.declared.finding.Found.{Found}
 
 -- the node is in the log of the task of this place, from 0
@@ -60,6 +63,12 @@ pub record HoldsGoodRun (content : Content) (dir : List ℕ) (rows : List Row) (
   pub keeps : KeepsRules FORMAT trace
   pub logs : HoldsLogs FORMAT content.held dir trace
   pub rows_are : rows_of trace ≡ rows
+
+-- where it was walked to the end, the folder holds a run and is bad nowhere; where it was refused, that tells its first bad place
+pub record WalksFolder {T : Type 0} (told : Option Content) (dir : List ℕ) (result : Result T WalkFault) : Type 0 where
+  pub holds : OnOk result (WhereTold told (λ c. (trace : Trace) × HoldsTrace FORMAT c.held dir trace))
+  pub well_formed : OnOk result (WhereTold told (λ c. IsWellFormed FORMAT c.held dir))
+  pub refused : IfErr result (λ e. WhereTold told (λ c. TellsFirstBad FORMAT c.held dir e))
 
 -- two accesses that race if nothing orders them, and their first common byte
 pub record ConflictAt (one other : Found) (byte : ℕ) : Type 0 where

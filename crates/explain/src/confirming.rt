@@ -1,15 +1,13 @@
 //! Whether two records race.
-ghost use Rattle.std.specs.Prelude.{◌≡◌, ◌↔◌, ◌+◌, ◌<◌, ◌≤◌, ℕ, List, length, Some, IsTrue, IfOk, IfErr, IsErrOf, OnOk, IsSomeAnd, None, MatchOption};
+ghost use Rattle.std.specs.Prelude.{◌≡◌, ◌↔◌, ◌+◌, ◌<◌, ◌≤◌, ℕ, List, length, Some, IsTrue, IfOk, IfErr, IsErrOf, IsSomeAnd, None, MatchOption};
 ghost use Rattle.sw_base.specs.Environment.{WhereTold, Rose};
 ghost use Rattle.counted_order.specs.Parting.{HasPassed};
 ghost use Rattle.log_format.specs.declared.format.TheConstants.{FORMAT};
-ghost use Rattle.log_walk.specs.Walk.{TellsFirstBad};
 ghost use Rattle.race_model.specs.FirstBad.{HoldsTrace};
 ghost use Rattle.race_model.specs.Race.{IsUnordered};
 ghost use Rattle.race_model.specs.Trace.{Trace, Node, logs_of, IsThere, barriers_before};
-ghost use Rattle.race_model.specs.WellFormed.{IsWellFormed};
 ghost use Rattle.explain.specs.Finding.{IsNoPlace};
-ghost use Rattle.explain.specs.Witness.{FindsNamed, IsConfirmed, ConflictAt, HoldsGoodRun, IsInLog, TellsRecord};
+ghost use Rattle.explain.specs.Witness.{FindsNamed, IsConfirmed, ConflictAt, HoldsGoodRun, IsInLog, TellsRecord, WalksFolder};
 
 use crate::conflict::conflict;
 use crate::finding::{Found, Mark, find_in_log};
@@ -221,10 +219,7 @@ pub fn confirm<F: Folder>(
 ) -> Result<Option<u64>, WalkFault>
     ensures confirmed { WhereTold (F.state place.old).content (λ c. (trace : Trace) → HoldsTrace FORMAT c.held dir.now trace
         → IfOk result (λ answer. (byte : ℕ) → (answer ≡ Some byte) ↔ IsConfirmed trace first_row first second_row second byte)) }
-    ensures holds { OnOk result (WhereTold (F.state place.old).content (λ c. (trace : Trace) × HoldsTrace FORMAT c.held dir.now trace)) }
-    ensures well_formed { OnOk result (WhereTold (F.state place.old).content (λ c. IsWellFormed FORMAT c.held dir.now)) }
-    ensures refused { IfErr result (λ e. WhereTold (F.state place.old).content (λ c. TellsFirstBad FORMAT c.held dir.now e)) }
-
+    ensures walks { WalksFolder (F.state place.old).content dir.now result }
     ensures same { F.state place.new ≡ F.state place.old }
     ensures later { F.read_faults place.old ≤ F.read_faults place.new }
     ensures cause { IsErrOf result WalkFault.ReadFault → Rose (F.read_faults place.old) (F.read_faults place.new) }

@@ -1,5 +1,5 @@
 //! The least race of two lines of a folder.
-ghost use Rattle.std.specs.Prelude.{◌≡◌, ◌↔◌, ◌^◌, ◌<◌, ◌≤◌, None, length, IfOk, IfErr, IsErrOf, OnOk};
+ghost use Rattle.std.specs.Prelude.{◌≡◌, ◌↔◌, ◌^◌, ◌<◌, ◌≤◌, None, length, IfOk, IfErr, IsErrOf};
 ghost use Rattle.sw_base.specs.Environment.{WhereTold, Rose};
 ghost use Rattle.log_format.specs.declared.format.TheConstants.{FORMAT};
 ghost use Rattle.log_walk.specs.Sweep.{HasSweptAll};
@@ -7,11 +7,10 @@ ghost use Rattle.log_walk.specs.Walk.{TellsFirstBad};
 ghost use Rattle.race_model.specs.FirstBad.{HoldsTrace};
 ghost use Rattle.race_model.specs.Race.{IsRacePair};
 ghost use Rattle.race_model.specs.Trace.{Trace, logs_of};
-ghost use Rattle.race_model.specs.WellFormed.{IsWellFormed};
 ghost use Rattle.explain.specs.Finding.{IsNoPlace};
 ghost use Rattle.explain.specs.Least.{FindsLeast};
 ghost use Rattle.explain.specs.Suspects.{HoldAccesses};
-ghost use Rattle.explain.specs.Witness.{HoldsGoodRun};
+ghost use Rattle.explain.specs.Witness.{HoldsGoodRun, WalksFolder};
 
 use crate::keeping::keep_lines;
 use crate::searching::least_race;
@@ -91,10 +90,7 @@ pub fn explain<F: Folder>(
 ) -> Result<Option<RacePair>, WalkFault>
     ensures explained { WhereTold (F.state place.old).content (λ c. (trace : Trace) → HoldsTrace FORMAT c.held dir.now trace → IfOk result (FindsLeast trace (low, high))) }
     ensures pair { WhereTold (F.state place.old).content (λ c. (trace : Trace) → HoldsTrace FORMAT c.held dir.now trace → IfOk result (λ answer. (answer ≡ None) ↔ (IsRacePair (logs_of trace) (low, high) → ⊥))) }
-    ensures holds { OnOk result (WhereTold (F.state place.old).content (λ c. (trace : Trace) × HoldsTrace FORMAT c.held dir.now trace)) }
-    ensures well_formed { OnOk result (WhereTold (F.state place.old).content (λ c. IsWellFormed FORMAT c.held dir.now)) }
-    ensures refused { IfErr result (λ e. WhereTold (F.state place.old).content (λ c. TellsFirstBad FORMAT c.held dir.now e)) }
-
+    ensures walks { WalksFolder (F.state place.old).content dir.now result }
     ensures same { F.state place.new ≡ F.state place.old }
     ensures later { F.read_faults place.old ≤ F.read_faults place.new }
     ensures cause { IsErrOf result WalkFault.ReadFault → Rose (F.read_faults place.old) (F.read_faults place.new) }

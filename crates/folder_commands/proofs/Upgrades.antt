@@ -62,3 +62,7 @@ printed_not_done status text old new result (answer.part failure prefix) other d
 pub there : (size : Option ℕ) (n : ℕ) (file : Option (List ℕ)) → size ≡ Some n → size ≡ option_map length file → IsSome file
 there size n (Some bytes) is told = refl
 there size n None is told = let e = sym is ∙ told in absurd (cc e)
+
+pub not_there : (size : Option ℕ) (file : Option (List ℕ)) → size ≡ None → size ≡ option_map length file → file ≡ None
+not_there size (Some bytes) is told = let e = sym told ∙ is in absurd (cc e)
+not_there size None is told = refl

@@ -17,6 +17,7 @@ pub mod LanePaths
 pub mod NewLogs
 pub mod NoRegion
 pub mod Noting
+pub mod Ongoing
 pub mod OwnWords
 pub mod Parting
 pub mod Phases

@@ -1,14 +1,13 @@
 -- What is asked for the regions of statements, of some of them and as a lane goes on.
 use Rattle.std.proofs.Common.{◌≡◌, sym, subst, ℕ, ◌<◌, List, [], ◌∷◌}
-use Rattle.std.specs.Prelude.{Some, All, length, slice_get}
+use Rattle.std.specs.Prelude.{All, length}
 use denote.Ref.{Bor, MutBor}
 use Rattle.std.specs.Global.{Vec}
 use Rattle.sw_base.specs.declared.path.Step.{Step}
 use Rattle.sw_base.specs.declared.closed_log.ClosedLog.{ClosedLog}
 use Rattle.event_buffer.specs.Buffered.{Buffered}
-use Rattle.kernel_syntax.specs.declared.syntax.Stmt.{Stmt}
 use Rattle.kernel_syntax.specs.declared.syntax.Team.{Team}
-use Rattle.kernel_syntax.specs.Program.{stmt_code, code_of}
+use Rattle.kernel_syntax.specs.Program.{stmt_code}
 use Rattle.kernel_syntax.specs.Tree.{TeamTree, Code, Done, Set, Store, Update, If, Loop, Parallel, For, Barrier, Critical}
 use Rattle.kernel_model.specs.declared.phase.Item.{Item}
 use Rattle.kernel_model.specs.declared.phase.Item.TheVariants as item
@@ -22,7 +21,6 @@ use Rattle.lane_runner.specs.Going.{IsSameLog}
 use Rattle.lane_runner.specs.Teams.{EachTeam, EachTeamIn, MayFork}
 use Rattle.lane_runner.specs.World.{WorldValue}
 use Rattle.lane_runner.proofs.NewLogs.{new_logs_later}
-use Rattle.lane_runner.proofs.Parting.{teams_at}
 use Rattle.lane_runner.proofs.Phases.{IsItemAt, item_has}
 
 pub teams_all : (P Q : TeamTree → Type 0) → ((team : TeamTree) → P team → Q team) → (code : Code) → EachTeam P code → EachTeam Q code
@@ -82,12 +80,6 @@ module _ {T : Type 0} (w : WorldValue) (accepts : MutBor (HandValue View) → Bo
     -- whose log has taken more may fork the same regions
     pub teams_later : (code : Code) → EachTeam (MayFork w accepts gives seen old) code → EachTeam (MayFork w accepts gives seen mid) code
     teams_later = teams_all (MayFork w accepts gives seen old) (MayFork w accepts gives seen mid) may_fork_later
-
-    -- and those of each statement of a list
-    pub teams_at_later : (stmts items : List Stmt) → items ≡ stmts → (k : ℕ) (x : Stmt) → slice_get items k ≡ Some x → EachTeam (MayFork w accepts gives seen old) (code_of stmts) → EachTeam (MayFork w accepts gives seen mid) (stmt_code x Done)
-    teams_at_later stmts items is k x found all =
-        teams_later (stmt_code x Done)
-        (teams_at (MayFork w accepts gives seen old) stmts k x (subst (λ (l : List Stmt). slice_get l k ≡ Some x) is found) all)
 
     -- and those of an item
     teams_of_item_later : (x : Item) → EachTeamIn (MayFork w accepts gives seen old) x → EachTeamIn (MayFork w accepts gives seen mid) x

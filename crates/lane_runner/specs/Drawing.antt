@@ -29,13 +29,14 @@ abbrev pub open_past : Bool → ℕ → ℕ
 open_past true loop = loop
 open_past false loop = suc loop
 
--- how many counters a worksharing loop of this schedule has, and that the team has them from this one on
+-- how many counters a worksharing loop of this schedule has
 abbrev pub counters_of : Schedule → ℕ
 counters_of (Dynamic chunk) = 1
 counters_of _ = 0
 
-pub record HasCounters (schedule : Schedule) (loop : ℕ) (chunks : ChunksValue) : Type 0 where
-  pub within : loop + counters_of schedule ≤ chunks.loops
+-- the team has so many counters from this loop on
+pub record HasCounters (count loop : ℕ) (chunks : ChunksValue) : Type 0 where
+  pub within : loop + count ≤ chunks.loops
   pub number : loop < 4294967296
 
 -- a hand's share after these draws

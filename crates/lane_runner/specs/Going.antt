@@ -1,5 +1,5 @@
 -- How a lane goes on: what its records, its hand and its locals have to do with the meaning of what it executes.
-use Rattle.std.specs.Prelude.{◌≡◌, ◌⊎◌, ℕ, ◌+◌, ◌-◌, ◌≤◌, List, [], ◌∷◌, ◌++◌, length, map, reverse, ◌<◌, ℤ, Some, None, Result, Ok, Err, is_some}
+use Rattle.std.specs.Prelude.{true, ◌≡◌, ◌⊎◌, ℕ, ◌+◌, ◌-◌, ◌≤◌, List, [], ◌∷◌, ◌++◌, length, map, reverse, ◌<◌, ℤ, Some, None, Result, Ok, Err, is_some}
 use Rattle.sw_base.specs.declared.trouble.Trouble.{Trouble}
 use Rattle.sw_base.specs.declared.trouble.Trouble.TheVariants.{Memory}
 use Rattle.log_format.specs.declared.record.Record.{Record}
@@ -13,6 +13,7 @@ use Rattle.kernel_model.specs.Trace.{log_limit}
 use Rattle.kernel_model.specs.Effect.{Finish, Returned, Halted, Makes, Effect, state_with}
 use Rattle.shared_words.specs.declared.view.View.{View}
 use Rattle.shared_words.specs.Handles.{HandValue, Belongs, with_view}
+use Rattle.shared_words.specs.Views.{rest}
 use Rattle.history_model.specs.Work.{Work, RegionWork, work_records, work_regions}
 use Rattle.race_model.specs.Trace.{barrier_count}
 use Rattle.race_model.specs.Race.{held_after}
@@ -54,6 +55,16 @@ pub record CanGo (w : WorldValue) (p : Progress) : Type 0 where
   pub drawing : Belongs p.tally.draws w.chunks.table
   pub enough : log_limit ≤ p.tally.draws.view.left + p.buffer.count
   pub forks : p.tally.forked ≤ p.buffer.count
+
+-- a record can be put: the hand is there, and the log has refused nothing
+pub record CanPut (p : Progress) : Type 0 where
+  pub there : p.hand.there ≡ true
+  pub unrefused : p.buffer.refused ≡ None
+
+-- the mutex, one of those of the words, was won last
+pub record IsInnermost (w : WorldValue) (v : View) (mutex : ℕ) : Type 0 where
+  pub within : mutex < w.words.locks
+  pub last : v.held ≡ mutex ∷ rest v.held
 
 -- the records that a work puts into its log
 abbrev pub log_of : Work → List Record

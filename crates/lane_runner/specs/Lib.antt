@@ -1,6 +1,7 @@
 pub mod Alone
 pub mod Children
 pub mod Drawing
+pub mod Executing
 pub mod Forking
 pub mod Going
 pub mod Handed

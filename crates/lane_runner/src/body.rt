@@ -1,15 +1,13 @@
 //! Lists of statements.
 ghost use Rattle.std.specs.Prelude.{◌≡◌, ◌+◌, ◌-◌, ◌^◌, pos, ◌+ℤ◌, ◌≤ℤ◌};
-ghost use Rattle.kernel_syntax.specs.Bounds.{IsBoundedCode};
 ghost use Rattle.kernel_syntax.specs.Program.{code_of, stmt_code};
 ghost use Rattle.kernel_syntax.specs.Tree as tree;
 ghost use Rattle.kernel_syntax.specs.Tree.{Done};
 ghost use Rattle.kernel_model.specs.Trace.{run, turns};
 ghost use Rattle.kernel_model.specs.Iterations.{total_of};
 ghost use Rattle.kernel_model.specs.Drawing.{turn_from};
-ghost use Rattle.lane_runner.specs.Alone.{IsAlone};
-ghost use Rattle.lane_runner.specs.Going.{CanGo, Goes, IsSameLog, site};
-ghost use Rattle.lane_runner.specs.Teams.{EachTeam, MayFork};
+ghost use Rattle.lane_runner.specs.Executing.{MayExecute};
+ghost use Rattle.lane_runner.specs.Going.{Goes, IsSameLog, site};
 
 use crate::frame::Frame;
 use crate::stop::{Halt, Stop};
@@ -54,10 +52,7 @@ impl<L: Log> Frame<L> {
             &mut Vec<ClosedLog<L>>,
         ) -> Result<(), (Path, Stop)>,
     >(&mut self, body: &Body, rt: &R, alloc: Global, world: &World, region: &F) -> Result<(), Halt>
-        requires can { CanGo world.now self.old.track }
-        requires bounded { IsBoundedCode (code_of body.now.stmts.items) }
-        requires alone { IsAlone world.now.words.locks self.old.track.hand.view.held (code_of body.now.stmts.items) }
-        requires runs { EachTeam (MayFork world.now (F.pre region.now) (F.post region.now) (record { dir = L.dir; path = L.path; text = L.text; faults = L.faults }) self.old.track.buffer) (code_of body.now.stmts.items) }
+        requires executes { MayExecute world.now (F.pre region.now) (F.post region.now) (record { dir = L.dir; path = L.path; text = L.text; faults = L.faults }) self.old.track (code_of body.now.stmts.items) }
         ensures goes { Goes world.now (run (site world.now) (code_of body.now.stmts.items)) self.old.locals.slots.items self.new.locals.slots.items self.old.track self.new.track result }
         ensures log { IsSameLog self.old.track.buffer self.new.track.buffer }
         ensures loops { self.new.track.tally.next_loop ≡ self.old.track.tally.next_loop }
@@ -92,10 +87,7 @@ impl<L: Log> Frame<L> {
         first: u64,
         count: u64,
     ) -> Result<(), Halt>
-        requires can { CanGo world.now self.old.track }
-        requires bounded { IsBoundedCode (code_of body.now.stmts.items) }
-        requires alone { IsAlone world.now.words.locks self.old.track.hand.view.held (code_of body.now.stmts.items) }
-        requires runs { EachTeam (MayFork world.now (F.pre region.now) (F.post region.now) (record { dir = L.dir; path = L.path; text = L.text; faults = L.faults }) self.old.track.buffer) (code_of body.now.stmts.items) }
+        requires executes { MayExecute world.now (F.pre region.now) (F.post region.now) (record { dir = L.dir; path = L.path; text = L.text; faults = L.faults }) self.old.track (code_of body.now.stmts.items) }
         requires top { (from +ℤ pos (first + count)) ≤ℤ pos (2 ^ 63 - 1) }
         ensures goes { Goes world.now (turns count first (turn_from (site world.now) (code_of body.now.stmts.items) slot from)) self.old.locals.slots.items self.new.locals.slots.items self.old.track self.new.track result }
         ensures log { IsSameLog self.old.track.buffer self.new.track.buffer }
@@ -131,10 +123,7 @@ impl<L: Log> Frame<L> {
         line: u32,
         end: u32,
     ) -> Result<(), Halt>
-        requires can { CanGo world.now self.old.track }
-        requires bounded { IsBoundedCode (tree.Critical mutex line end (code_of body.now.stmts.items) Done) }
-        requires alone { IsAlone world.now.words.locks self.old.track.hand.view.held (tree.Critical mutex line end (code_of body.now.stmts.items) Done) }
-        requires runs { EachTeam (MayFork world.now (F.pre region.now) (F.post region.now) (record { dir = L.dir; path = L.path; text = L.text; faults = L.faults }) self.old.track.buffer) (tree.Critical mutex line end (code_of body.now.stmts.items) Done) }
+        requires executes { MayExecute world.now (F.pre region.now) (F.post region.now) (record { dir = L.dir; path = L.path; text = L.text; faults = L.faults }) self.old.track (tree.Critical mutex line end (code_of body.now.stmts.items) Done) }
         ensures goes { Goes world.now (run (site world.now) (tree.Critical mutex line end (code_of body.now.stmts.items) Done)) self.old.locals.slots.items self.new.locals.slots.items self.old.track self.new.track result }
         ensures log { IsSameLog self.old.track.buffer self.new.track.buffer }
         ensures loops { self.new.track.tally.next_loop ≡ self.old.track.tally.next_loop }
@@ -164,10 +153,7 @@ impl<L: Log> Frame<L> {
             &mut Vec<ClosedLog<L>>,
         ) -> Result<(), (Path, Stop)>,
     >(&mut self, stmt: &Stmt, rt: &R, alloc: Global, world: &World, region: &F) -> Result<(), Halt>
-        requires can { CanGo world.now self.old.track }
-        requires bounded { IsBoundedCode (stmt_code stmt.now Done) }
-        requires alone { IsAlone world.now.words.locks self.old.track.hand.view.held (stmt_code stmt.now Done) }
-        requires runs { EachTeam (MayFork world.now (F.pre region.now) (F.post region.now) (record { dir = L.dir; path = L.path; text = L.text; faults = L.faults }) self.old.track.buffer) (stmt_code stmt.now Done) }
+        requires executes { MayExecute world.now (F.pre region.now) (F.post region.now) (record { dir = L.dir; path = L.path; text = L.text; faults = L.faults }) self.old.track (stmt_code stmt.now Done) }
         ensures goes { Goes world.now (run (site world.now) (stmt_code stmt.now Done)) self.old.locals.slots.items self.new.locals.slots.items self.old.track self.new.track result }
         ensures log { IsSameLog self.old.track.buffer self.new.track.buffer }
         ensures loops { self.new.track.tally.next_loop ≡ self.old.track.tally.next_loop }

@@ -1,14 +1,12 @@
 //! Worksharing loops whose chunks are drawn.
 ghost use Rattle.std.specs.Prelude.{IfOk, ◌≡◌, ◌+◌, ◌-◌, ◌<◌, ◌≤◌, ◌^◌, ℕ, pos, ◌+ℤ◌, ◌≤ℤ◌};
-ghost use Rattle.kernel_syntax.specs.Bounds.{IsBoundedCode};
 ghost use Rattle.kernel_syntax.specs.Program.{code_of};
 ghost use Rattle.kernel_model.specs.Iterations.{chunk_count, chunk_iterations};
 ghost use Rattle.kernel_model.specs.Trace.{each, log_limit};
 ghost use Rattle.kernel_model.specs.Drawing.{turn_from, draw_once, draw_all};
-ghost use Rattle.lane_runner.specs.Alone.{IsAlone};
-ghost use Rattle.lane_runner.specs.Drawing.{open_past};
-ghost use Rattle.lane_runner.specs.Going.{CanGo, Goes, IsSameLog, site};
-ghost use Rattle.lane_runner.specs.Teams.{EachTeam, MayFork};
+ghost use Rattle.lane_runner.specs.Drawing.{HasCounters, open_past};
+ghost use Rattle.lane_runner.specs.Executing.{MayExecute};
+ghost use Rattle.lane_runner.specs.Going.{Goes, IsSameLog, site};
 
 use crate::frame::Frame;
 use crate::stop::{Halt, Stop};
@@ -47,14 +45,10 @@ impl<L: Log> Frame<L> {
         chunk: u64,
         line: u32,
     ) -> Result<bool, Halt>
-        requires can { CanGo world.now self.old.track }
-        requires bounded { IsBoundedCode (code_of body.now.stmts.items) }
-        requires alone { IsAlone world.now.words.locks self.old.track.hand.view.held (code_of body.now.stmts.items) }
-        requires runs { EachTeam (MayFork world.now (F.pre region.now) (F.post region.now) (record { dir = L.dir; path = L.path; text = L.text; faults = L.faults }) self.old.track.buffer) (code_of body.now.stmts.items) }
+        requires executes { MayExecute world.now (F.pre region.now) (F.post region.now) (record { dir = L.dir; path = L.path; text = L.text; faults = L.faults }) self.old.track (code_of body.now.stmts.items) }
         requires some { 0 < chunk }
         requires top { (from +ℤ pos total) ≤ℤ pos (2 ^ 63 - 1) }
-        requires open { self.old.track.tally.next_loop < world.now.chunks.loops }
-        requires number { self.old.track.tally.next_loop < 4294967296 }
+        requires counter { HasCounters 1 self.old.track.tally.next_loop world.now.chunks }
         requires line { 1 ≤ line }
         ensures goes { Goes world.now (draw_once line (chunk_count chunk total) (λ q. each (chunk_iterations chunk total q) (turn_from (site world.now) (code_of body.now.stmts.items) slot from))) self.old.locals.slots.items self.new.locals.slots.items self.old.track self.new.track result }
         ensures log { IsSameLog self.old.track.buffer self.new.track.buffer }
@@ -106,14 +100,10 @@ impl<L: Log> Frame<L> {
         chunk: u64,
         line: u32,
     ) -> Result<(), Halt>
-        requires can { CanGo world.now self.old.track }
-        requires bounded { IsBoundedCode (code_of body.now.stmts.items) }
-        requires alone { IsAlone world.now.words.locks self.old.track.hand.view.held (code_of body.now.stmts.items) }
-        requires runs { EachTeam (MayFork world.now (F.pre region.now) (F.post region.now) (record { dir = L.dir; path = L.path; text = L.text; faults = L.faults }) self.old.track.buffer) (code_of body.now.stmts.items) }
+        requires executes { MayExecute world.now (F.pre region.now) (F.post region.now) (record { dir = L.dir; path = L.path; text = L.text; faults = L.faults }) self.old.track (code_of body.now.stmts.items) }
         requires some { 0 < chunk }
         requires top { (from +ℤ pos total) ≤ℤ pos (2 ^ 63 - 1) }
-        requires open { self.old.track.tally.next_loop < world.now.chunks.loops }
-        requires number { self.old.track.tally.next_loop < 4294967296 }
+        requires counter { HasCounters 1 self.old.track.tally.next_loop world.now.chunks }
         requires line { 1 ≤ line }
         ensures goes { Goes world.now (draw_all line (chunk_count chunk total) (λ q. each (chunk_iterations chunk total q) (turn_from (site world.now) (code_of body.now.stmts.items) slot from))) self.old.locals.slots.items self.new.locals.slots.items self.old.track self.new.track result }
         ensures log { IsSameLog self.old.track.buffer self.new.track.buffer }

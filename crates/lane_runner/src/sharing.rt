@@ -9,6 +9,7 @@ ghost use Rattle.kernel_model.specs.Trace.{run, each, shared};
 ghost use Rattle.kernel_model.specs.Drawing.{turn_from};
 ghost use Rattle.lane_runner.specs.Alone.{IsAlone};
 ghost use Rattle.lane_runner.specs.Drawing.{HasCounters, counters_of};
+ghost use Rattle.lane_runner.specs.Executing.{MayExecute};
 ghost use Rattle.lane_runner.specs.Going.{CanGo, Goes, IsSameLog, site};
 ghost use Rattle.lane_runner.specs.Teams.{EachTeam, MayFork};
 
@@ -50,10 +51,7 @@ impl<L: Log> Frame<L> {
         total: u64,
         chunk: u32,
     ) -> Result<(), Halt>
-        requires can { CanGo world.now self.old.track }
-        requires bounded { IsBoundedCode (code_of body.now.stmts.items) }
-        requires alone { IsAlone world.now.words.locks self.old.track.hand.view.held (code_of body.now.stmts.items) }
-        requires runs { EachTeam (MayFork world.now (F.pre region.now) (F.post region.now) (record { dir = L.dir; path = L.path; text = L.text; faults = L.faults }) self.old.track.buffer) (code_of body.now.stmts.items) }
+        requires executes { MayExecute world.now (F.pre region.now) (F.post region.now) (record { dir = L.dir; path = L.path; text = L.text; faults = L.faults }) self.old.track (code_of body.now.stmts.items) }
         requires some { 0 < chunk }
         requires top { (from +ℤ pos total) ≤ℤ pos (2 ^ 63 - 1) }
         ensures goes { Goes world.now (each (static_iterations chunk total world.now.lane world.now.span) (turn_from (site world.now) (code_of body.now.stmts.items) slot from)) self.old.locals.slots.items self.new.locals.slots.items self.old.track self.new.track result }
@@ -95,12 +93,9 @@ impl<L: Log> Frame<L> {
         schedule: Schedule,
         line: u32,
     ) -> Result<(), Halt>
-        requires can { CanGo world.now self.old.track }
-        requires bounded { IsBoundedCode (code_of body.now.stmts.items) }
-        requires alone { IsAlone world.now.words.locks self.old.track.hand.view.held (code_of body.now.stmts.items) }
-        requires runs { EachTeam (MayFork world.now (F.pre region.now) (F.post region.now) (record { dir = L.dir; path = L.path; text = L.text; faults = L.faults }) self.old.track.buffer) (code_of body.now.stmts.items) }
+        requires executes { MayExecute world.now (F.pre region.now) (F.post region.now) (record { dir = L.dir; path = L.path; text = L.text; faults = L.faults }) self.old.track (code_of body.now.stmts.items) }
         requires chunk { IsBoundedSchedule schedule }
-        requires counters { HasCounters schedule self.old.track.tally.next_loop world.now.chunks }
+        requires counters { HasCounters (counters_of schedule) self.old.track.tally.next_loop world.now.chunks }
         requires line { 1 ≤ line }
         requires top { (from +ℤ pos total) ≤ℤ pos (2 ^ 63 - 1) }
         ensures goes { Goes world.now (shared schedule (site world.now) line total (turn_from (site world.now) (code_of body.now.stmts.items) slot from)) self.old.locals.slots.items self.new.locals.slots.items self.old.track self.new.track result }
@@ -159,7 +154,7 @@ impl<L: Log> Frame<L> {
         requires bounded { IsBoundedCode (tree.For slot (term_of from.now) (term_of to.now) schedule true line end (code_of body.now.stmts.items) Done) }
         requires alone { IsAlone world.now.words.locks self.old.track.hand.view.held (code_of body.now.stmts.items) }
         requires runs { EachTeam (MayFork world.now (F.pre region.now) (F.post region.now) (record { dir = L.dir; path = L.path; text = L.text; faults = L.faults }) self.old.track.buffer) (code_of body.now.stmts.items) }
-        requires counters { HasCounters schedule self.old.track.tally.next_loop world.now.chunks }
+        requires counters { HasCounters (counters_of schedule) self.old.track.tally.next_loop world.now.chunks }
         ensures goes { Goes world.now (run (site world.now) (tree.For slot (term_of from.now) (term_of to.now) schedule true line end (code_of body.now.stmts.items) Done)) self.old.locals.slots.items self.new.locals.slots.items self.old.track self.new.track result }
         ensures log { IsSameLog self.old.track.buffer self.new.track.buffer }
         ensures loops { IfOk result (λ _. self.new.track.tally.next_loop ≡ self.old.track.tally.next_loop + counters_of schedule) }

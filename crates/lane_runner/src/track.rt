@@ -1,21 +1,22 @@
 //! What a lane steps with: its hand on the shared words, and the buffer before its log. Each step has a place in the log before it
 //! is taken.
-ghost use Rattle.std.specs.Prelude.{◌≡◌, ◌+◌, ◌<◌, ◌≤◌, true, None, List, [], ◌∷◌, length, IfOk, OnOk, ℤ, Contains};
+ghost use Rattle.std.specs.Prelude.{◌≡◌, ◌+◌, ◌<◌, ◌≤◌, None, List, [], length, IfOk, OnOk, ℤ, Contains};
 ghost use Rattle.kernel_model.specs.Value as model;
 ghost use Rattle.kernel_model.specs.Value.{read};
 ghost use Rattle.kernel_model.specs.Changing.{kind_of};
 ghost use Rattle.kernel_model.specs.State.{put, event};
 ghost use Rattle.log_format.specs.declared.record.Kind.TheVariants as kind;
 ghost use Rattle.lane_runner.specs.World.{WorldValue};
-ghost use Rattle.lane_runner.specs.Going.{CanGo, Goes, GoesPast, IsSameLog, MakesRoom, site, TakesOrHalts, stop_for};
+ghost use Rattle.lane_runner.specs.Going.{CanGo, CanPut, Goes, GoesPast, IsInnermost, IsSameLog, MakesRoom, site, TakesOrHalts, stop_for};
 ghost use Rattle.shared_words.specs.Handles.{Belongs, with_view};
 ghost use Rattle.kernel_syntax.specs.Program.{team_of, code_of};
 ghost use Rattle.kernel_syntax.specs.Tree as tree;
 ghost use Rattle.kernel_model.specs.Trace.{run, draw, log_limit};
 ghost use Rattle.lane_runner.specs.Children.{AreNewLogs};
 ghost use Rattle.lane_runner.specs.Forking.{RunsTeam};
+ghost use Rattle.lane_runner.specs.Drawing.{HasCounters};
 ghost use Rattle.lane_runner.specs.Handed.{entries_of};
-ghost use Rattle.shared_words.specs.Views.{did, locked, unlocked, rest};
+ghost use Rattle.shared_words.specs.Views.{did, locked, unlocked};
 ghost use Rattle.log_format.specs.Fitting.{fitted};
 ghost use Rattle.lane_runner.specs.Placing.{StandsIn, change_deed};
 ghost use Rattle.task_place.specs.Placing.{meant};
@@ -264,8 +265,7 @@ impl<L: Log> Track<L> {
         line: u32,
     ) -> Result<(), Halt>
         requires can { CanGo world.now self.old }
-        requires mutex { mutex < world.now.words.locks }
-        requires innermost { self.old.hand.view.held ≡ mutex ∷ rest self.old.hand.view.held }
+        requires innermost { IsInnermost world.now self.old.hand.view mutex }
         ensures takes { TakesOrHalts (event kind.Unlock line mutex 0) (unlocked self.old.hand.view mutex) self.old self.new result }
         ensures log { IsSameLog self.old.buffer self.new.buffer }
         ensures tally { self.new.tally ≡ self.old.tally }
@@ -280,8 +280,7 @@ impl<L: Log> Track<L> {
     /// Gives back the mutex that it won last at a stop, without a record.
     pub fn release(&mut self, world: &World, mutex: u16)
         requires belongs { Belongs self.old.hand world.now.words.table }
-        requires mutex { mutex < world.now.words.locks }
-        requires innermost { self.old.hand.view.held ≡ mutex ∷ rest self.old.hand.view.held }
+        requires innermost { IsInnermost world.now self.old.hand.view mutex }
         ensures hand { self.new.hand ≡ with_view self.old.hand (unlocked self.old.hand.view mutex) }
         ensures log { self.new.buffer ≡ self.old.buffer }
         ensures tally { self.new.tally ≡ self.old.tally }
@@ -298,8 +297,7 @@ impl<L: Log> Track<L> {
         kind: Kind,
         line: u32,
     ) -> Result<(), Halt>
-        requires there { self.old.hand.there ≡ true }
-        requires unrefused { self.old.buffer.refused ≡ None }
+        requires puts { CanPut self.old }
         ensures takes { TakesOrHalts (event kind line 0 0) self.old.hand.view self.old self.new result }
         ensures log { IsSameLog self.old.buffer self.new.buffer }
         ensures tally { self.new.tally ≡ self.old.tally }
@@ -317,8 +315,7 @@ impl<L: Log> Track<L> {
         alloc: Global,
         line: u32,
     ) -> Result<(), Halt>
-        requires there { self.old.hand.there ≡ true }
-        requires unrefused { self.old.buffer.refused ≡ None }
+        requires puts { CanPut self.old }
         requires line { 1 ≤ line }
         ensures goes { (w : WorldValue) (slots : List ℤ) → CanGo w self.old → GoesPast 1 w (put (event kind.Barrier line 0 0)) slots slots self.old self.new result }
         ensures can { (w : WorldValue) → CanGo w self.old → OnOk result (CanGo w self.new) }
@@ -335,8 +332,7 @@ impl<L: Log> Track<L> {
         alloc: Global,
         line: u32,
     ) -> Result<(), Halt>
-        requires there { self.old.hand.there ≡ true }
-        requires unrefused { self.old.buffer.refused ≡ None }
+        requires puts { CanPut self.old }
         requires line { 1 ≤ line }
         ensures takes { TakesOrHalts (event kind.End line 0 0) self.old.hand.view self.old self.new result }
         ensures goes { (w : WorldValue) (slots : List ℤ) → CanGo w self.old → Goes w (put (event kind.End line 0 0)) slots slots self.old self.new result }
@@ -355,8 +351,7 @@ impl<L: Log> Track<L> {
         line: u32,
         span: u16,
     ) -> Result<Vec<L>, Halt>
-        requires there { self.old.hand.there ≡ true }
-        requires unrefused { self.old.buffer.refused ≡ None }
+        requires puts { CanPut self.old }
         requires path { length self.old.buffer.path < 4 }
         ensures takes { TakesOrHalts (event kind.Region line 0 span) self.old.hand.view self.old self.new result }
         ensures logs { IfOk result (λ logs. AreNewLogs (record { dir = L.dir; path = L.path; text = L.text; faults = L.faults }) self.old.buffer self.old.tally.forked span logs.items) }
@@ -432,8 +427,7 @@ impl<L: Log> Track<L> {
         chunks: u64,
     ) -> Result<u64, Halt>
         requires can { CanGo world.now self.old }
-        requires open { self.old.tally.next_loop < world.now.chunks.loops }
-        requires number { self.old.tally.next_loop < 4294967296 }
+        requires counter { HasCounters 1 self.old.tally.next_loop world.now.chunks }
         requires line { 1 ≤ line }
         ensures goes { (slots : List ℤ) → Goes world.now (draw line chunks) slots slots self.old self.new result }
         ensures within { IfOk result (λ number. number ≤ chunks) }

@@ -60,9 +60,9 @@ fn compound<L: Log, R: Threads + Wait + Copy + Send + 'static>(
     track: &mut Track<L>,
     expr: &Expr,
 ) -> Result<i64, Halt>
+    requires compound { IsCompound (term_of expr.now) }
     requires can { CanGo world.now track.old }
     requires bounded { IsBoundedTerm (term_of expr.now) }
-    requires compound { IsCompound (term_of expr.now) }
     ensures goes { Goes world.now (value (site world.now) (term_of expr.now)) locals.now.slots.items locals.now.slots.items track.old track.new result }
     ensures log { IsSameLog track.old.buffer track.new.buffer }
     ensures tally { track.new.tally ≡ track.old.tally }

@@ -1,27 +1,28 @@
 //! Lanes that count their phases.
-ghost use Rattle.std.specs.Prelude.{◌≡◌, ◌+◌, ◌-◌, ◌^◌, ◌<◌, ◌≤◌, All, length, IfSome};
+ghost use Rattle.std.specs.Prelude.{◌≡◌, ◌+◌, ◌-◌, ◌^◌, ◌<◌, ◌≤◌, All, length};
 
 use std::alloc::Global;
-use std::marker::{Brand, Send};
+use std::marker::{Brand, Send, Sync};
 use std::sync::Wait;
 use std::thread::{Builder, Threads};
-use team_live::with_staying;
+use team_live::in_phases;
 
-/// Each lane of a team adds one in each phase. `None` where no memory is found, else each lane's number is that of the phases.
-pub fn counted<R: Threads + Wait + Copy + Send + 'static>(
+/// Each lane of a team adds one in each phase, so that its number is that of the phases.
+pub fn counted<R: Threads + Wait + Copy + Send + Sync + 'static>(
     rt: &R,
     alloc: Global,
     phases: usize,
     lanes: Vec<u64>,
-) -> Option<Vec<u64>>
+) -> Vec<u64>
     requires span { (1 ≤ length lanes.items) × (length lanes.items ≤ 64) }
     requires zeros { All (λ lane. lane ≡ 0) lanes.items }
-    ensures count { IfSome result (λ after. length after.items ≡ length lanes.items) }
-    ensures counts { IfSome result (λ after. All (λ lane. lane ≡ phases) after.items) }
+    ensures count { length result.items ≡ length lanes.items }
+    ensures counts { All (λ lane. lane ≡ phases) result.items }
 {
-    let (_, counts, _) = with_staying::<Brand, R, (), u64, _, _, _, _, _>(
+    let (_, counts, _) = in_phases::<Brand, R, (), u64, _, _, _, _, _>(
         rt,
         alloc,
+        true,
         phases,
         (),
         lanes,
@@ -33,7 +34,6 @@ pub fn counted<R: Threads + Wait + Copy + Send + 'static>(
         &|_index: usize| Builder::new(),
         &|_hand: &mut (), _lanes: &mut Vec<u64>| {},
         &|_hand: &mut (), _lanes: &mut Vec<u64>| -> bool { true },
-    )
-    .ok()?;
-    Some(counts)
+    );
+    counts
 }

@@ -52,7 +52,7 @@ pub fn nested<R: Threads + Wait + Copy + Send + Sync + 'static, D: Drop + Send +
     ensures { IfSome result (λ lanes. All (λ tally. tally.count ≡ PHASES) lanes.items) }
 {
     let lanes = fresh::<D>(alloc, span).ok()?;
-    count_phases(
+    Some(count_phases(
         rt,
         alloc,
         PHASES,
@@ -71,5 +71,5 @@ pub fn nested<R: Threads + Wait + Copy + Send + Sync + 'static, D: Drop + Send +
                 let _inner = nested::<R, D, G>(rt, alloc, depth - 1, span, gate);
             }
         },
-    )
+    ))
 }

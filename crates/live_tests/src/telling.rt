@@ -1,14 +1,14 @@
 //! How a caller whose lanes have a type parameter says what they do: by what is seen of a lane, and by a key of its own that rests on what a call
 //! picks.
-ghost use Rattle.std.specs.Prelude.{◌≡◌, ◌+◌, ◌<◌, ◌≤◌, ℕ, length, IfSome};
+ghost use Rattle.std.specs.Prelude.{◌≡◌, ◌+◌, ◌<◌, ◌≤◌, ℕ, length};
 ghost use Rattle.team_live.specs.Phases.{RunsTasks};
 ghost use Rattle.live_tests.specs.Telling.{HasCounted, HaveCounted, MayCount};
 
 use std::alloc::Global;
-use std::marker::{Brand, PhantomData, Send};
+use std::marker::{Brand, PhantomData, Send, Sync};
 use std::sync::Wait;
 use std::thread::{Builder, Threads};
-use team_live::{LaneKey, TeamKey, with_staying};
+use team_live::{LaneKey, TeamKey, in_phases};
 
 /// What is seen of a lane.
 pub trait Seen {
@@ -53,20 +53,21 @@ impl<M: Seen, J: About> TeamKey<(), M> for Counting<J> {
 
 // The lanes do so many phases.
 fn told<
-    J: About + Send + 'static,
-    R: Threads + Wait + Copy + Send + 'static,
+    J: About + Send + Sync + 'static,
+    R: Threads + Wait + Copy + Send + Sync + 'static,
     M: Seen + Drop + Send + 'static,
     T: Fn(usize, usize, &mut M) + Sync,
->(rt: &R, alloc: Global, phases: usize, lanes: Vec<M>, task: &T) -> Option<Vec<M>>
+>(rt: &R, alloc: Global, phases: usize, lanes: Vec<M>, task: &T) -> Vec<M>
     requires about { J.phases ≡ phases }
     requires span { (1 ≤ length lanes.items) × (length lanes.items ≤ 64) }
     requires tasks { RunsTasks (T.pre task.now) (T.post task.now) (MayCount M.seen phases) (HasCounted M.seen) }
     requires none { HaveCounted M.seen 0 lanes.items }
-    ensures { IfSome result (λ after. HaveCounted M.seen phases after.items) }
+    ensures { HaveCounted M.seen phases result.items }
 {
-    let (_, after, _) = with_staying::<Counting<J>, R, (), M, T, _, _, _, _>(
+    let (_, after, _) = in_phases::<Counting<J>, R, (), M, T, _, _, _, _>(
         rt,
         alloc,
+        true,
         phases,
         (),
         lanes,
@@ -75,21 +76,20 @@ fn told<
         &|_lane: usize| Builder::new(),
         &|_hand: &mut (), _lanes: &mut Vec<M>| {},
         &|_hand: &mut (), _lanes: &mut Vec<M>| -> bool { true },
-    )
-    .ok()?;
-    Some(after)
+    );
+    after
 }
 
 /// The same, for lanes of any type that are seen so.
 pub fn count_phases<
-    R: Threads + Wait + Copy + Send + 'static,
+    R: Threads + Wait + Copy + Send + Sync + 'static,
     M: Seen + Drop + Send + 'static,
     T: Fn(usize, usize, &mut M) + Sync,
->(rt: &R, alloc: Global, phases: usize, lanes: Vec<M>, task: &T) -> Option<Vec<M>>
+>(rt: &R, alloc: Global, phases: usize, lanes: Vec<M>, task: &T) -> Vec<M>
     requires span { (1 ≤ length lanes.items) × (length lanes.items ≤ 64) }
     requires tasks { RunsTasks (T.pre task.now) (T.post task.now) (MayCount M.seen phases) (HasCounted M.seen) }
     requires none { HaveCounted M.seen 0 lanes.items }
-    ensures { IfSome result (λ after. HaveCounted M.seen phases after.items) }
+    ensures { HaveCounted M.seen phases result.items }
 {
     told::<Brand, R, M, T>(rt, alloc, phases, lanes, task)
 }

@@ -10,7 +10,7 @@ use std::sync::atomic::{AtomicU64, Ordering};
 use std::test::Fail;
 use std::thread::{Builder, Threads};
 use sw_base::Gate;
-use team_live::{LiveGate, in_phases, with_staying};
+use team_live::{LiveGate, in_phases};
 
 /// How often the thread of each lane started, and how often each lane entered a phase.
 #[derive(Drop)]
@@ -261,8 +261,8 @@ fn lanes_do_their_phases_in_order_on_threads_that_start_once(rt: HostRuntime) ->
     Ok(())
 }
 
-// A phase of a team, in which each lane waits in the gate until all are there.
-fn met<R: Threads + Wait + Copy + Send + 'static>(
+// A team of two phases, in the first of which each lane waits in the gate until all are there.
+fn met<R: Threads + Wait + Copy + Send + Sync + 'static>(
     rt: &R,
     alloc: Global,
     gate: &MeetingGate,
@@ -270,19 +270,24 @@ fn met<R: Threads + Wait + Copy + Send + 'static>(
 ) -> bool
     requires { (1 ≤ length lanes.items) × (length lanes.items ≤ 64) }
 {
-    let ran = with_staying::<Brand, R, (), u64, _, _, _, _, _>(
+    let (_, _, whole) = in_phases::<Brand, R, (), u64, _, _, _, _, _>(
         rt,
         alloc,
-        1,
+        true,
+        2,
         (),
         lanes,
-        &|_number: usize, index: usize, _lane: &mut u64| gate.enter(index),
+        &|number: usize, index: usize, _lane: &mut u64| {
+            if number == 0 {
+                gate.enter(index);
+            }
+        },
         &|_index: usize| {},
         &|index: usize| builder(0, index),
         &|_hand: &mut (), _lanes: &mut Vec<u64>| {},
         &|_hand: &mut (), _lanes: &mut Vec<u64>| -> bool { true },
     );
-    ran.is_ok() && gate.have_met()
+    whole && gate.have_met()
 }
 
 #[test]
@@ -298,9 +303,7 @@ fn lanes_run_at_once(rt: HostRuntime) -> Result<(), Fail> {
 fn each_lane_counts_the_phases(rt: HostRuntime) -> Result<(), Fail> {
     let mut lanes = Vec::new(rt.alloc());
     lanes.resize(3, 0u64)?;
-    let Some(after) = counted(&rt, rt.alloc(), 5, lanes) else {
-        return Err(Fail::from("no memory"));
-    };
+    let after = counted(&rt, rt.alloc(), 5, lanes);
     assert!(rt; after.as_slice() == [5, 5, 5].as_slice());
     Ok(())
 }

@@ -1,5 +1,5 @@
 //! A task that follows its log: its locals, the regions that it forked, and the log, read record by record.
-ghost use Rattle.std.specs.Prelude.{◌≡◌, ◌↔◌, ◌+◌, ◌≤◌, ◌<◌, min, List, IfOk, IsErrOf, IsTrue, slice_set};
+ghost use Rattle.std.specs.Prelude.{◌≡◌, ◌↔◌, ◌+◌, ◌≤◌, ◌<◌, min, List, IfOk, IsTrue, slice_set};
 ghost use Rattle.log_format.specs.declared.record.Kind.{Kind};
 ghost use Rattle.log_format.specs.declared.record.Record.{Record};
 ghost use Rattle.log_format.specs.declared.record.Kind.TheVariants as kind;
@@ -7,11 +7,10 @@ ghost use Rattle.kernel_model.specs.State.{put, event};
 ghost use Rattle.kernel_model.specs.Trace.{draw};
 ghost use Rattle.kernel_model.specs.Value.{access, read};
 ghost use Rattle.log_format.specs.Fitting.{IsWidth};
-ghost use Rattle.log_replay.specs.Following.{Follows, IsAt, IsMark, Takes};
+ghost use Rattle.log_replay.specs.Following.{Follows, IsAt, IsMark, KeepsFolder, Takes};
 ghost use Rattle.log_replay.specs.Forks.{standing};
 ghost use Rattle.task_place.specs.Placing.{meant};
 ghost use Rattle.log_replay.specs.declared.stray.Stray.TheVariants as stray;
-ghost use Rattle.sw_base.specs.Environment.{Rose};
 
 use crate::forked::Forked;
 use crate::stray::Stray;
@@ -85,9 +84,7 @@ impl<'k> Lane<'k> {
     pub(crate) fn next<F: Folder>(&mut self, alloc: Global, folder: &mut F) -> Result<Record, Stray>
         ensures takes { (log done rest : List Record) → IsAt (F.state folder.old) log done rest (standing self.old) → Takes (F.state folder.old) rest (standing self.old) (standing self.new) result }
         ensures less { IfOk result (λ _. self.new.reader.left < self.old.reader.left) }
-        ensures same { F.state folder.new ≡ F.state folder.old }
-        ensures later { F.read_faults folder.old ≤ F.read_faults folder.new }
-        ensures cause { IsErrOf result Stray.ReadFault → Rose (F.read_faults folder.old) (F.read_faults folder.new) }
+        ensures keeps { KeepsFolder Stray.ReadFault (F.state folder.old) (F.state folder.new) (F.read_faults folder.old) (F.read_faults folder.new) result }
     {
         match self.reader.next(alloc, folder)? {
             Some(next) => {
@@ -110,9 +107,7 @@ impl<'k> Lane<'k> {
         requires { IsWidth element.now.width }
         ensures follows { Follows (F.state folder.old) (read (meant element.now) site line) (standing self.old) (standing self.new) result }
         ensures fewer { IfOk result (λ _. self.new.reader.left ≤ self.old.reader.left) }
-        ensures same { F.state folder.new ≡ F.state folder.old }
-        ensures later { F.read_faults folder.old ≤ F.read_faults folder.new }
-        ensures cause { IsErrOf result Stray.ReadFault → Rose (F.read_faults folder.old) (F.read_faults folder.new) }
+        ensures keeps { KeepsFolder Stray.ReadFault (F.state folder.old) (F.state folder.new) (F.read_faults folder.old) (F.read_faults folder.new) result }
     {
         let next = self.next(alloc, folder)?;
         let value = fit(next.value.cast_signed(), element.width);
@@ -133,9 +128,7 @@ impl<'k> Lane<'k> {
         requires { IsMark due.kind }
         ensures follows { Follows (F.state folder.old) (put due) (standing self.old) (standing self.new) result }
         ensures fewer { IfOk result (λ _. self.new.reader.left ≤ self.old.reader.left) }
-        ensures same { F.state folder.new ≡ F.state folder.old }
-        ensures later { F.read_faults folder.old ≤ F.read_faults folder.new }
-        ensures cause { IsErrOf result Stray.ReadFault → Rose (F.read_faults folder.old) (F.read_faults folder.new) }
+        ensures keeps { KeepsFolder Stray.ReadFault (F.state folder.old) (F.state folder.new) (F.read_faults folder.old) (F.read_faults folder.new) result }
     {
         let next = self.next(alloc, folder)?;
         if !is_same(&next, &due) {
@@ -155,9 +148,7 @@ impl<'k> Lane<'k> {
         ensures follows { Follows (F.state folder.old) (draw line chunks) (standing self.old) (standing self.new) result }
         ensures within { IfOk result (λ number. number ≤ chunks) }
         ensures less { IfOk result (λ _. self.new.reader.left < self.old.reader.left) }
-        ensures same { F.state folder.new ≡ F.state folder.old }
-        ensures later { F.read_faults folder.old ≤ F.read_faults folder.new }
-        ensures cause { IsErrOf result Stray.ReadFault → Rose (F.read_faults folder.old) (F.read_faults folder.new) }
+        ensures keeps { KeepsFolder Stray.ReadFault (F.state folder.old) (F.state folder.new) (F.read_faults folder.old) (F.read_faults folder.new) result }
     {
         let next = self.next(alloc, folder)?;
         let due = event(Kind::Chunk, line, next.addr.min(chunks), chunks);

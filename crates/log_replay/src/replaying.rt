@@ -12,7 +12,7 @@ ghost use Rattle.kernel_syntax.specs.Program.{program_of};
 ghost use Rattle.kernel_model.specs.Trace.{log_limit};
 ghost use Rattle.log_walk.specs.Walk.{TellsFirstBad};
 ghost use Rattle.log_replay.specs.Ancestors.{ComparesTask, IsFoundOf, KeepsAllForks, forks_kept};
-ghost use Rattle.log_replay.specs.Following.{HasEnd};
+ghost use Rattle.log_replay.specs.Following.{HasEnd, KeepsFolder};
 ghost use Rattle.log_replay.specs.declared.stray.Stray.TheVariants as strays;
 ghost use Rattle.log_replay.specs.Replaying.{AnswersFolder, IsReplayable, IsReplayed, IsTroubled};
 
@@ -63,10 +63,7 @@ fn compare_task<'k, F: Folder>(
         → IsWholeLog FORMAT c.held dir.now row.now.path (logs row.now.path) → row.now.records ≡ length (logs row.now.path) → HasEnd (logs row.now.path) → length (logs row.now.path) ≤ log_limit
         → ComparesTask (program_of kernel.now) logs row.now.path (forks_kept kept.old.items) (forks_kept kept.new.items) found)) }
     ensures only_faults { IfErr result (λ e. IsTroubled e) }
-
-    ensures same { F.state folder.new ≡ F.state folder.old }
-    ensures later { F.read_faults folder.old ≤ F.read_faults folder.new }
-    ensures cause { IsErrOf result WalkFault.ReadFault → Rose (F.read_faults folder.old) (F.read_faults folder.new) }
+    ensures keeps { KeepsFolder WalkFault.ReadFault (F.state folder.old) (F.state folder.new) (F.read_faults folder.old) (F.read_faults folder.new) result }
 {
     let Some(start) = find_start(alloc, kernel, kept, &row.path)? else {
         return Ok(Some(1));
@@ -104,10 +101,7 @@ fn compare_rows<F: Folder>(
     ensures compares { IfOk result (λ found. WhereTold (F.state folder.old).content (λ c. (tasks : Trace) → rows_of tasks ≡ rows.now → HoldsLogs FORMAT c.held dir.now tasks → KeepsRules FORMAT tasks
         → IsReplayed (program_of kernel.now) tasks found)) }
     ensures only_faults { IfErr result (λ e. IsTroubled e) }
-
-    ensures same { F.state folder.new ≡ F.state folder.old }
-    ensures later { F.read_faults folder.old ≤ F.read_faults folder.new }
-    ensures cause { IsErrOf result WalkFault.ReadFault → Rose (F.read_faults folder.old) (F.read_faults folder.new) }
+    ensures keeps { KeepsFolder WalkFault.ReadFault (F.state folder.old) (F.state folder.new) (F.read_faults folder.old) (F.read_faults folder.new) result }
 {
     let mut kept = Vec::new(alloc);
     'rows: for row in rows {

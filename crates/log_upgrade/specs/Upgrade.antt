@@ -1,6 +1,6 @@
 -- What it does to bring a folder of the first format over to another folder.
-use Rattle.std.specs.Prelude.{◌≡◌, ◌≢◌, ◌⊎◌, ℕ, List, length, Option, Some, None}
-use Rattle.sw_base.specs.Environment.{Content, Files}
+use Rattle.std.specs.Prelude.{◌≡◌, ◌≢◌, ◌⊎◌, ℕ, ◌≤◌, List, length, Option, Some, None, is_some, Result, IsErrOf, OnOk}
+use Rattle.sw_base.specs.Environment.{Content, Files, FolderState, Rose}
 use Rattle.sw_base.specs.Names.{index_name}
 use Rattle.log_format.specs.declared.format.Format.TheVariants.{First}
 use Rattle.log_format.specs.declared.format.TheConstants.{FORMAT}
@@ -10,6 +10,10 @@ use Rattle.race_model.specs.Row.{Row}
 use Rattle.race_model.specs.Trace.{Trace}
 use Rattle.race_model.specs.WellFormed.{IsWellFormed}
 use Rattle.log_index.specs.Puts.{PutsLogs, PutsPart, with_run}
+use Rattle.log_walk.specs.declared.fault.WalkFault.{WalkFault}
+use Rattle.log_walk.specs.declared.fault.WalkFault.TheVariants.{ReadFault}
+use Rattle.log_upgrade.specs.declared.fault.UpgradeFault.{UpgradeFault}
+use Rattle.log_upgrade.specs.declared.fault.UpgradeFault.TheVariants.{Walk, WriteFault}
 
 -- the folder is one of the first format, bad nowhere, that holds this run, and the other one has no index
 pub record CanUpgrade (files : Files) (dir new : List ℕ) (trace : Trace) : Type 0 where
@@ -43,3 +47,13 @@ pub record CanBring (files : Files) (dir new : List ℕ) (rows : List Row) (trac
 -- the folder is as it was, or the first of the logs were put
 abbrev pub BringsPart : List ℕ → Trace → Content → Option Content → Type 0
 BringsPart new trace old now = (now ≡ Some old) ⊎ PutsLogs new trace (Some old) now
+
+-- what it costs to bring logs over: a read or a write that failed is counted, and is the cause of an answer that says so
+pub record CountsFaults {T : Type 0} (reads reads' : ℕ) (before after : FolderState) (result : Result T UpgradeFault) : Type 0 where
+  pub later : reads ≤ reads'
+  pub only_reads : (w : WalkFault) → IsErrOf result (Walk w) → (w ≡ ReadFault) × Rose reads reads'
+  pub write_later : before.write_faults ≤ after.write_faults
+  pub write_cause : IsErrOf result WriteFault → Rose before.write_faults after.write_faults
+  pub no_fault : OnOk result (after.write_faults ≡ before.write_faults)
+  pub same_roots : after.roots ≡ before.roots
+  pub tells : is_some after.content ≡ is_some before.content

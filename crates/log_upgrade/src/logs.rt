@@ -1,20 +1,18 @@
 //! Logs of the first format, put into another folder.
-ghost use Rattle.std.specs.Prelude.{◌≡◌, ◌≤◌, List, Some, length, is_some, IfOk, IsErrOf, OnErr, OnOk};
+ghost use Rattle.std.specs.Prelude.{◌≡◌, List, Some, length, IfOk, OnErr, OnOk};
 ghost use Rattle.log_format.specs.declared.format.Format.TheVariants.{First};
 ghost use Rattle.log_format.specs.declared.format.TheConstants.{FORMAT};
 ghost use Rattle.log_format.specs.declared.record.Record.{Record};
 ghost use Rattle.log_format.specs.Format.{log_header};
 ghost use Rattle.log_format.specs.Spelling.{log_bytes};
-ghost use Rattle.sw_base.specs.Environment.{HasCause, LeavesPrefix, Rose, WhereTold, with_put};
+ghost use Rattle.sw_base.specs.Environment.{HasCause, LeavesPrefix, WhereTold, with_put};
 ghost use Rattle.sw_base.specs.Names.{log_name};
 ghost use Rattle.std.specs.Option.{option_map};
 ghost use Rattle.race_model.specs.LogFault.{IsWholeLog};
 ghost use Rattle.race_model.specs.Trace.{Trace};
 ghost use Rattle.log_reader.specs.Reading.{StandsBefore};
-ghost use Rattle.log_walk.specs.declared.fault.WalkFault.{WalkFault};
-ghost use Rattle.log_walk.specs.declared.fault.WalkFault.TheVariants as fault;
 ghost use Rattle.log_index.specs.Puts.{with_tasks};
-ghost use Rattle.log_upgrade.specs.Upgrade.{BringsPart, CanBring};
+ghost use Rattle.log_upgrade.specs.Upgrade.{BringsPart, CanBring, CountsFaults};
 
 use crate::fault::{UpgradeFault, unread, unwritten};
 use log_format::{FORMAT, Format, encode};
@@ -91,13 +89,7 @@ fn bring_log<F: Folder>(
         → OnOk result ((F.state folder.new).content ≡ Some (with_put (log_name new.now path.now) (log_bytes (log_header FORMAT) events) c))) }
     ensures refused { WhereTold (F.state folder.old).content (λ c. (events : List Record) → IsWholeLog First c.held dir.now path.now events → records ≡ length events
         → OnErr result (LeavesPrefix (Some c) (F.state folder.new).content (log_name new.now path.now) (log_bytes (log_header FORMAT) events))) }
-    ensures later { F.read_faults folder.old ≤ F.read_faults folder.new }
-    ensures only_reads { (w : WalkFault) → IsErrOf result (UpgradeFault.Walk w) → (w ≡ fault.ReadFault) × Rose (F.read_faults folder.old) (F.read_faults folder.new) }
-    ensures write_later { (F.state folder.old).write_faults ≤ (F.state folder.new).write_faults }
-    ensures write_cause { IsErrOf result UpgradeFault.WriteFault → Rose (F.state folder.old).write_faults (F.state folder.new).write_faults }
-    ensures no_fault { OnOk result ((F.state folder.new).write_faults ≡ (F.state folder.old).write_faults) }
-    ensures same_roots { (F.state folder.new).roots ≡ (F.state folder.old).roots }
-    ensures tells { is_some (F.state folder.new).content ≡ is_some (F.state folder.old).content }
+    ensures counts { CountsFaults (F.read_faults folder.old) (F.read_faults folder.new) (F.state folder.old) (F.state folder.new) result }
 {
     let bytes = match spell_log(alloc, folder, reader, dir, path, records) {
         Ok(bytes) => bytes,
@@ -121,13 +113,7 @@ pub fn bring_logs<F: Folder>(
         → OnOk result ((F.state folder.new).content ≡ Some (with_tasks new.now trace c))) }
     ensures refused { WhereTold (F.state folder.old).content (λ c. (trace : Trace) → CanBring c.held dir.now new.now rows.now trace
         → OnErr result (BringsPart new.now trace c (F.state folder.new).content)) }
-    ensures later { F.read_faults folder.old ≤ F.read_faults folder.new }
-    ensures only_reads { (w : WalkFault) → IsErrOf result (UpgradeFault.Walk w) → (w ≡ fault.ReadFault) × Rose (F.read_faults folder.old) (F.read_faults folder.new) }
-    ensures write_later { (F.state folder.old).write_faults ≤ (F.state folder.new).write_faults }
-    ensures write_cause { IsErrOf result UpgradeFault.WriteFault → Rose (F.state folder.old).write_faults (F.state folder.new).write_faults }
-    ensures no_fault { OnOk result ((F.state folder.new).write_faults ≡ (F.state folder.old).write_faults) }
-    ensures same_roots { (F.state folder.new).roots ≡ (F.state folder.old).roots }
-    ensures tells { is_some (F.state folder.new).content ≡ is_some (F.state folder.old).content }
+    ensures counts { CountsFaults (F.read_faults folder.old) (F.read_faults folder.new) (F.state folder.old) (F.state folder.new) result }
 {
     let mut reader = LogReader::new(alloc)?;
     'rows: for row in rows {

@@ -1,10 +1,11 @@
 -- How a sweep goes on.
-use Rattle.std.proofs.Common.{◌≡◌, ◌⊎◌, inl, inr, ℕ, zero, suc, ◌+◌, ◌^◌, ◌<◌, ◌≤◌, List, [], ◌∷◌, ◌++◌, length, min, Option, Some, None, refl, sym, ap, subst, ◌∙◌, arith, append-nil}
-use Rattle.std.specs.Prelude.{slice_get, All}
+use Rattle.std.proofs.Common.{◌≡◌, ◌⊎◌, inl, inr, ℕ, zero, suc, ◌+◌, ◌^◌, ◌<◌, ◌≤◌, List, [], ◌∷◌, ◌++◌, length, min, Option, Some, None, refl, sym, ap, subst, ◌∙◌, arith, append-nil, length-append}
+use Rattle.std.specs.Prelude.{slice_get, All, Ok, Err}
+use Rattle.std.specs.Global.{Vec}
 use Rattle.std.specs.List.{AllZip}
 use Rattle.std.proofs.lemmas.Bool.{cases_order}
 use Rattle.std.proofs.lemmas.List.{length-map, length-take, take_all}
-use Rattle.std.proofs.lemmas.Option.{same_Some, slice_get_within}
+use Rattle.std.proofs.lemmas.Option.{none-some, same_Some, slice_get_within}
 use Rattle.sw_base.specs.declared.path.Step.{Step}
 use Rattle.sw_base.specs.Environment.{Content, Files, WhereTold}
 use Rattle.log_format.specs.declared.format.Format.{Format}
@@ -21,7 +22,7 @@ use Rattle.log_segment.specs.Walking.{AddsSegments, HasLogs}
 use Rattle.log_walk.specs.GoodTrace.{IsGoodTrace}
 use Rattle.log_segment.specs.Regions.{IsUnderRegion}
 use Rattle.log_walk.specs.Stack.{IsStackAfter, WalksTask}
-use Rattle.log_walk.specs.Sweep.{AreRegions, BeginsSweep, Completes, GivesRegion, GivesSegments, HasSwept, HasSweptAll, IsRoot, RefusesIndexOrRoot, WalksRegion}
+use Rattle.log_walk.specs.Sweep.{AnswersNext, AreRegions, BeginsSweep, Completes, GivesRegion, GivesSegments, HasRefused, HasSwept, HasSweptAll, IsRoot, RefusesIndexOrRoot, WalksRegion}
 use Rattle.sw_base.specs.declared.trouble.Trouble.{Trouble}
 use Rattle.sw_base.specs.declared.trouble.Trouble.TheVariants as trouble
 use Rattle.log_walk.specs.Walk.{RefusesLogOf, TellsFirstBad, Walked, of_trouble}
@@ -111,7 +112,7 @@ gives sweep trace more IsOne found good is some ones only adds = record {
   zip whole c = added_none (logs_of whole) more found (adds (logs_of whole) (whole_logs sweep.rows (trace ++ more) c.rest whole good c.rows_are c.parts))
 
 -- a region was gone over
-pub gives_region : {format : Format} (told : Option Content) (dir : List ℕ) (old new : Sweep) (trace : Trace) (found : List Segment) → HasSwept format told dir old trace → old.refused ≡ None
+gives_region : {format : Format} (told : Option Content) (dir : List ℕ) (old new : Sweep) (trace : Trace) (found : List Segment) → HasSwept format told dir old trace → old.refused ≡ None
     → new ≡ record old { stack = new.stack; region = old.region + 1 } → WalksRegion format told dir old.rows old.region new.stack trace found → GivesRegion format told dir old new trace found
 gives_region {format} told dir old new trace found swept fresh is walks = record {
   more = walks.more;
@@ -145,7 +146,7 @@ short : (n m : ℕ) → n ≡ min n m → n ≤ m
 short n m e = grind arith
 
 -- no row is left
-pub swept_all : {format : Format} (told : Option Content) (dir : List ℕ) (sweep : Sweep) (trace : Trace) → HasSwept format told dir sweep trace → sweep.refused ≡ None → length sweep.rows ≤ sweep.stack.place → HasSweptAll format told dir sweep trace
+swept_all : {format : Format} (told : Option Content) (dir : List ℕ) (sweep : Sweep) (trace : Trace) → HasSwept format told dir sweep trace → sweep.refused ≡ None → length sweep.rows ≤ sweep.stack.place → HasSweptAll format told dir sweep trace
 swept_all told dir sweep trace swept fresh past = record {
   good = swept.good;
   keeps = keeps_rules sweep.rows trace swept.rows swept.good all;
@@ -165,7 +166,7 @@ swept_all told dir sweep trace swept fresh past = record {
   all = let stands = swept.stands fresh in omega (arith, stands.place, few, past)
 
 -- a refusal is kept
-pub refused_kept : {format : Format} (told : Option Content) (dir : List ℕ) (old new : Sweep) (trace : Trace) (e : WalkFault) → HasSwept format told dir old trace → new ≡ record old { stack = new.stack; refused = Some e }
+refused_kept : {format : Format} (told : Option Content) (dir : List ℕ) (old new : Sweep) (trace : Trace) (e : WalkFault) → HasSwept format told dir old trace → new ≡ record old { stack = new.stack; refused = Some e }
     → RefusesLogOf (IsUnderRegion old.region) e → WhereTold told (λ c. TellsFirstBad format c.held dir e) → HasSwept format told dir new trace
 refused_kept {format} told dir old new trace e swept is of tells = record {
   format_is = ap (λ (s : Sweep). s.format) is ∙ swept.format_is;
@@ -185,6 +186,60 @@ refused_kept {format} told dir old new trace e swept is of tells = record {
 
   region : new.region ≡ old.region
   region = ap (λ (s : Sweep). s.region) is
+
+-- ---- what is answered of the next region
+
+none_refused : (sweep : Sweep) (e : WalkFault) → sweep.refused ≡ None → HasRefused sweep e → ⊥
+none_refused sweep e fresh is = none-some e (sym fresh ∙ is)
+
+-- the refusal of an earlier call
+pub answers_again : (told : Option Content) (sweep : Sweep) (e : WalkFault) → HasRefused sweep e → AnswersNext told sweep sweep (Err e)
+answers_again told sweep e is = record {
+  region = λ format dir trace swept. tt;
+  shrinks = tt;
+  all = λ format dir trace swept. tt;
+  refused = λ format dir trace swept. (let r = swept.refusal e is in (is, r.0, r.1, swept));
+  unrefused = tt;
+  again = λ other was. ap (λ (x : WalkFault). Err x) (same_Some e other (sym is ∙ was));
+}
+
+-- none is left
+pub answers_none : (told : Option Content) (sweep : Sweep) → sweep.refused ≡ None → length sweep.rows ≤ sweep.stack.place → AnswersNext told sweep sweep (Ok None)
+answers_none told sweep fresh past = record {
+  region = λ format dir trace swept. tt;
+  shrinks = tt;
+  all = λ format dir trace swept none. (refl, swept_all told dir sweep trace swept fresh past);
+  refused = λ format dir trace swept. tt;
+  unrefused = λ e is. none_refused sweep e fresh is;
+  again = λ e is. absurd (none_refused sweep e fresh is);
+}
+
+-- a region was gone over
+pub answers_region : (told : Option Content) (old new : Sweep) (found : Vec Segment) → (format : Format) × (dir : List ℕ) × (trace : Trace) × HasSwept format told dir old trace → old.refused ≡ None → old.stack.place < length old.rows
+    → new ≡ record old { stack = new.stack; region = old.region + 1 }
+    → ((format : Format) (dir : List ℕ) (trace : Trace) → HasSwept format told dir old trace → WalksRegion format told dir old.rows old.region new.stack trace found.items) → AnswersNext told old new (Ok (Some found))
+answers_region told old new found (format, dir, trace, swept) fresh ahead is walks = record {
+  region = λ f d t s. gives_region told d old new t found.items s fresh is (walks f d t s);
+  shrinks =
+      let w = walks format dir trace swept in
+      omega (arith, ahead, w.stands.place, (swept.stands fresh).place, w.some, length-append trace w.more, ap (λ (s : Sweep). length s.rows) is);
+  all = λ f d t s none. absurd (none-some found (sym none));
+  refused = λ f d t s. tt;
+  unrefused = λ e was. none_refused old e fresh (sym (ap (λ (s : Sweep). s.refused) is) ∙ was);
+  again = λ e was. absurd (none_refused old e fresh was);
+}
+
+-- a call is refused
+pub answers_refused : (told : Option Content) (old new : Sweep) (e : WalkFault) → old.refused ≡ None → new ≡ record old { stack = new.stack; refused = Some e }
+    → ((format : Format) (dir : List ℕ) (trace : Trace) → HasSwept format told dir old trace → RefusesLogOf (IsUnderRegion old.region) e × WhereTold told (λ c. TellsFirstBad format c.held dir e)) → AnswersNext told old new (Err e)
+answers_refused told old new e fresh is refuses = record {
+  region = λ format dir trace swept. tt;
+  shrinks = tt;
+  all = λ format dir trace swept. tt;
+  refused = λ format dir trace swept. (let r = refuses format dir trace swept in (ap (λ (s : Sweep). s.refused) is, r.0, r.1, refused_kept told dir old new trace e swept is r.0 r.1));
+  unrefused = tt;
+  again = λ other was. absurd (none_refused old other fresh was);
+}
 
 -- before the first log
 pub begins_stack : {format : Format} (rows : List Row) (stack : Stack) → AreRows rows → stack.place ≡ 0 → stack.segments ≡ 0 → IsStackAfter format rows stack []

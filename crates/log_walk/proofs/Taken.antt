@@ -1,6 +1,6 @@
 -- A log that was read before its turn.
 use Rattle.std.proofs.Common.{◌≡◌, ◌∙◌, ℕ, ◌+◌, ◌*◌, ◌<◌, ◌≤◌, false, List, [], ◌∷◌, ◌++◌, length, take, drop, Option, Some, None, refl, sym, ap, subst, inl, inr, arith, get_or}
-use Rattle.std.specs.Prelude.{slice_get, string_bytes, option_map, unwrap_or}
+use Rattle.std.specs.Prelude.{All, slice_get, string_bytes, option_map, unwrap_or}
 use Rattle.std.proofs.lemmas.Bool.{cases_order}
 use Rattle.std.proofs.lemmas.List.{length-take-le, take_all}
 use Rattle.std.proofs.lemmas.List.Sums.{count_by_more_no}
@@ -24,19 +24,24 @@ use Rattle.log_segment.specs.declared.segment.Segment.{Segment}
 use Rattle.span_label.specs.Levels.{own_level}
 use Rattle.log_segment.specs.Walking.{IsOwnAfter, WalksLog}
 use Rattle.log_segment.proofs.OwnLevel.{own_last}
-use Rattle.log_walk.specs.Ahead.{StandsAsRead, IsGoneOver, IsAhead}
+use Rattle.log_walk.specs.Ahead.{StandsAsRead, IsBatch, IsGoneOver, IsAhead, IsSource}
 use Rattle.log_walk.specs.Check.{ChecksLog, IsGoodLog, KeepsLogRules}
 use Rattle.log_walk.specs.LogSoFar.{window_at}
 use Rattle.log_walk.specs.Rules.{log_task_of}
 use Rattle.log_walk.specs.Stack.{IsStackAfter, WalksTask}
 use Rattle.log_walk.specs.Walk.{IsTaskOf}
 use Rattle.log_walk.specs.declared.ahead.Ahead.{Ahead}
+use Rattle.log_walk.specs.declared.ahead.Batch.{Batch}
 use Rattle.log_walk.specs.declared.check.Checked.{Checked}
 use Rattle.log_walk.specs.declared.stack.Stack.{Stack}
 use Rattle.log_walk.specs.declared.task.Task.{Task}
 use Rattle.log_walk.proofs.Left.{whole_log}
 use Rattle.log_walk.proofs.LogSoFar.{shows_from}
 use Rattle.log_walk.proofs.NextStack.{Pushed, walks_task}
+
+-- nothing was read yet
+pub batch_begun : (format : Format) (told : Option Content) (dir : List ℕ) (rows : List Row) (batch : Batch) → All (IsSource told dir rows) batch.sources.items → batch.ahead.items ≡ [] → IsBatch format told dir rows batch
+batch_begun format told dir rows batch sources none = record { sources = sources; ahead = λ k d within. absurd (omega (arith, within, ap (λ (xs : List Ahead). length xs) none)) }
 
 -- where as many barriers are due as there are, the records keep the rules as if none were due
 keeps_due : (task : LogTask) (due : Option ℕ) (records : List Record) → length records ≡ task.records → ((barriers : ℕ) → due ≡ Some barriers → barriers ≡ barrier_count records)

@@ -1,5 +1,5 @@
 -- What is known of a log that is read before its turn.
-use Rattle.std.specs.Prelude.{◌≡◌, ℕ, ◌+◌, ◌*◌, ◌≤◌, List, [], Option, Some, None, slice_get, string_bytes}
+use Rattle.std.specs.Prelude.{◌≡◌, ℕ, ◌+◌, ◌*◌, ◌≤◌, List, [], All, Option, Some, None, slice_get, string_bytes}
 use Rattle.sw_base.specs.Environment.{Content, WhereTold}
 use Rattle.sw_base.specs.Names.{log_name}
 use Rattle.sw_base.specs.Window.{Window, file_of}
@@ -18,6 +18,7 @@ use Rattle.log_walk.specs.GoodTrace.{AreTeamBarriers}
 use Rattle.log_walk.specs.LogSoFar.{IsReadTo, LogSoFar, window_at}
 use Rattle.log_walk.specs.Rules.{log_task_of}
 use Rattle.log_walk.specs.declared.ahead.Ahead.{Ahead}
+use Rattle.log_walk.specs.declared.ahead.Batch.{Batch}
 use Rattle.log_walk.specs.declared.ahead.Reading.{Reading}
 use Rattle.log_walk.specs.declared.ahead.Slot.{Slot}
 use Rattle.log_walk.specs.declared.ahead.Source.{Source}
@@ -57,6 +58,11 @@ pub record IsGoneOver (format : Format) (told : Option Content) (dir : List ℕ)
 pub record IsAhead (format : Format) (told : Option Content) (dir : List ℕ) (rows : List Row) (read : Ahead) : Type 0 where
   pub source : IsSource told dir rows read.source
   pub checks : ChecksLog format told (string_bytes read.source.name) read.source.task 0 read.source.label read.checked [] read.found.items
+
+-- what is to be read before its turn, and what was
+pub record IsBatch (format : Format) (told : Option Content) (dir : List ℕ) (rows : List Row) (batch : Batch) : Type 0 where
+  pub sources : All (IsSource told dir rows) batch.sources.items
+  pub ahead : All (IsAhead format told dir rows) batch.ahead.items
 
 -- what is known of the log in a slot
 abbrev pub IsStage : Format → Option Content → List ℕ → List Row → Window → Stage → Type 0

@@ -1,5 +1,6 @@
 -- A sweep through a folder: the root's log first, and then one region of the root at a time.
-use Rattle.std.specs.Prelude.{◌≡◌, ℕ, ◌+◌, ◌-◌, ◌<◌, ◌≤◌, List, [], ◌∷◌, ◌++◌, length, Contains, Option, Some, None, slice_get}
+use Rattle.std.specs.Prelude.{◌≡◌, ℕ, ◌+◌, ◌-◌, ◌<◌, ◌≤◌, List, [], ◌∷◌, ◌++◌, length, Contains, Option, Some, None, Result, Err, IfOk, IfErr, IfSome, OnOk, slice_get}
+use Rattle.std.specs.Global.{Vec}
 use Rattle.std.specs.List.{AllZip}
 use Rattle.sw_base.specs.declared.path.Step.{Step}
 use Rattle.sw_base.specs.Environment.{Content, WhereTold}
@@ -115,3 +116,16 @@ pub record HasSweptAll (format : Format) (told : Option Content) (dir : List ℕ
   pub well_formed : WhereTold told (λ c. IsWellFormed format c.held dir)
   pub completes : Completes sweep trace trace
   pub under : (task : TaskLog) (m : ℕ) → Contains trace task → IsUnderRegion m task.path → m < regions_given sweep
+
+-- what is answered of the root's next region: its segments, or that none is left, or a refusal, which stays
+pub record AnswersNext (told : Option Content) (old new : Sweep) (result : Result (Option (Vec Segment)) WalkFault) : Type 0 where
+  pub region : (format : Format) (dir : List ℕ) (trace : Trace) → HasSwept format told dir old trace
+      → IfOk result (λ found. IfSome found (λ segments. GivesRegion format told dir old new trace segments.items))
+  pub shrinks : IfOk result (λ found. IfSome found (λ _. logs_left new < logs_left old))
+  pub all : (format : Format) (dir : List ℕ) (trace : Trace) → HasSwept format told dir old trace
+      → IfOk result (λ found. found ≡ None → (new ≡ old) × HasSweptAll format told dir old trace)
+  pub refused : (format : Format) (dir : List ℕ) (trace : Trace) → HasSwept format told dir old trace
+      → IfErr result (λ e. HasRefused new e × RefusesLogOf (IsUnderRegion (regions_given old)) e × WhereTold told (λ c. TellsFirstBad format c.held dir e)
+      × HasSwept format told dir new trace)
+  pub unrefused : OnOk result ((e : WalkFault) → HasRefused new e → ⊥)
+  pub again : (e : WalkFault) → HasRefused old e → result ≡ Err e

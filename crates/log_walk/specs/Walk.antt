@@ -98,3 +98,7 @@ pub record IsNextTask (format : Format) (rows : List Row) (earlier : Trace) (row
   pub counted : length records ≡ row.records
   pub sum : segments ≡ segments_in earlier + segment_count records
   pub limit : segments ≤ max_segments
+
+-- a refusal of the next row's log, after the logs of a trace
+abbrev pub RefusesNext : Format → Option Content → List ℕ → List Row → Trace → Row → WalkFault → Type 0
+RefusesNext format told dir rows trace row e = RefusesLogOf (λ path. path ≡ row.path) e × WhereTold told (λ c. Walked format c.held dir rows trace → TellsFirstBad format c.held dir e)

@@ -1,10 +1,10 @@
 //! A log that is read before its turn, as if no segment were opened before it and its team owed no barriers.
-ghost use Rattle.std.specs.Prelude.{◌≡◌, ◌<◌, ◌^◌, ◌-◌, ℕ, List, All, Option, IfOk, OnOk};
+ghost use Rattle.std.specs.Prelude.{◌≡◌, ◌<◌, ◌^◌, ◌-◌, ℕ, List, Option, IfOk, OnOk};
 ghost use Rattle.sw_base.specs.Environment.{Content, HasCause};
 ghost use Rattle.sw_base.specs.Window.{Window as View};
 ghost use Rattle.log_format.specs.declared.format.Format.{Format};
 ghost use Rattle.race_model.specs.Row.{Row};
-ghost use Rattle.log_walk.specs.Ahead.{IsGoneOver, IsAhead, IsReading, IsSlot, IsSource, IsStage};
+ghost use Rattle.log_walk.specs.Ahead.{IsBatch, IsGoneOver, IsReading, IsSlot, IsSource, IsStage};
 
 use crate::check::{Checked, is_at_end, pass_ahead};
 use crate::state::State;
@@ -49,6 +49,14 @@ pub struct Ahead {
     pub source: Source,
     pub checked: Checked,
     pub found: Vec<Segment>,
+}
+
+/// The logs that are to be read before their turns, and those that were and are good.
+#[derive(Drop)]
+pub struct Batch {
+    /// The next one comes last.
+    pub sources: Vec<Source>,
+    pub ahead: Vec<Ahead>,
 }
 
 /// How far a log is.
@@ -103,17 +111,17 @@ fn begin_next<F: Folder>(
     format: Format,
     folder: &mut F,
     window: &mut Window,
-    sources: &mut Vec<Source>,
+    batch: &mut Batch,
 ) -> Result<Stage, Trouble>
-    ensures begins { (dir : List ℕ) (rows : List Row) → All (IsSource (F.state folder.old).content dir rows) sources.old.items
+    ensures begins { (dir : List ℕ) (rows : List Row) → IsBatch format (F.state folder.old).content dir rows batch.old
         → IfOk result (λ stage. IsStage format (F.state folder.old).content dir rows window.new stage) }
-    ensures left { (dir : List ℕ) (rows : List Row) → All (IsSource (F.state folder.old).content dir rows) sources.old.items
-        → All (IsSource (F.state folder.old).content dir rows) sources.new.items }
+    ensures batch { (dir : List ℕ) (rows : List Row) → IsBatch format (F.state folder.old).content dir rows batch.old
+        → OnOk result (IsBatch format (F.state folder.old).content dir rows batch.new) }
 
     ensures same { F.state folder.new ≡ F.state folder.old }
     ensures cause { HasCause (F.read_faults folder.old) (F.read_faults folder.new) result }
 {
-    match sources.pop() {
+    match batch.sources.pop() {
         Some(source) => begin(alloc, format, folder, window, source),
         None => Ok(Stage::Idle),
     }
@@ -142,17 +150,16 @@ fn keep<F: Folder>(
     folder: &mut F,
     window: &mut Window,
     read: Ahead,
-    ahead: &mut Vec<Ahead>,
+    batch: &mut Batch,
 ) -> Result<(), Trouble>
-    ensures kept { (format : Format) (dir : List ℕ) (rows : List Row) → IsGoneOver format (F.state folder.old).content dir rows window.old read
-        → All (IsAhead format (F.state folder.old).content dir rows) ahead.old.items
-        → OnOk result (All (IsAhead format (F.state folder.old).content dir rows) ahead.new.items) }
+    ensures batch { (format : Format) (dir : List ℕ) (rows : List Row) → IsGoneOver format (F.state folder.old).content dir rows window.old read
+        → IsBatch format (F.state folder.old).content dir rows batch.old → OnOk result (IsBatch format (F.state folder.old).content dir rows batch.new) }
 
     ensures same { F.state folder.new ≡ F.state folder.old }
     ensures cause { HasCause (F.read_faults folder.old) (F.read_faults folder.new) result }
 {
     if is_at_end(alloc, folder, &read.source.name, window)? {
-        ahead.push(read)?;
+        batch.ahead.push(read)?;
     }
     Ok(())
 }
@@ -164,27 +171,22 @@ fn next_stage<F: Folder>(
     folder: &mut F,
     window: &mut Window,
     stage: Stage,
-    sources: &mut Vec<Source>,
-    ahead: &mut Vec<Ahead>,
+    batch: &mut Batch,
 ) -> Result<Stage, Trouble>
     ensures goes { (dir : List ℕ) (rows : List Row) → IsStage format (F.state folder.old).content dir rows window.old stage
-        → All (IsSource (F.state folder.old).content dir rows) sources.old.items
-        → IfOk result (λ stage. IsStage format (F.state folder.old).content dir rows window.new stage) }
-    ensures left { (dir : List ℕ) (rows : List Row) → All (IsSource (F.state folder.old).content dir rows) sources.old.items
-        → All (IsSource (F.state folder.old).content dir rows) sources.new.items }
-    ensures kept { (dir : List ℕ) (rows : List Row) → IsStage format (F.state folder.old).content dir rows window.old stage
-        → All (IsAhead format (F.state folder.old).content dir rows) ahead.old.items
-        → OnOk result (All (IsAhead format (F.state folder.old).content dir rows) ahead.new.items) }
+        → IsBatch format (F.state folder.old).content dir rows batch.old → IfOk result (λ stage. IsStage format (F.state folder.old).content dir rows window.new stage) }
+    ensures batch { (dir : List ℕ) (rows : List Row) → IsStage format (F.state folder.old).content dir rows window.old stage
+        → IsBatch format (F.state folder.old).content dir rows batch.old → OnOk result (IsBatch format (F.state folder.old).content dir rows batch.new) }
 
     ensures same { F.state folder.new ≡ F.state folder.old }
     ensures cause { HasCause (F.read_faults folder.old) (F.read_faults folder.new) result }
 {
     match stage {
-        Stage::Idle => begin_next(alloc, format, folder, window, sources),
+        Stage::Idle => begin_next(alloc, format, folder, window, batch),
         Stage::Going(reading) => read_on(alloc, folder, window, reading),
         Stage::Passed(read) => {
-            keep(alloc, folder, window, read, ahead)?;
-            begin_next(alloc, format, folder, window, sources)
+            keep(alloc, folder, window, read, batch)?;
+            begin_next(alloc, format, folder, window, batch)
         }
     }
 }
@@ -281,31 +283,18 @@ impl Slot {
         alloc: Global,
         format: Format,
         folder: &mut F,
-        sources: &mut Vec<Source>,
-        ahead: &mut Vec<Ahead>,
+        batch: &mut Batch,
     ) -> Result<(), Trouble>
         ensures fills { (dir : List ℕ) (rows : List Row) → IsSlot format (F.state folder.old).content dir rows self.old
-            → All (IsSource (F.state folder.old).content dir rows) sources.old.items
-            → OnOk result (IsSlot format (F.state folder.old).content dir rows self.new) }
-        ensures left { (dir : List ℕ) (rows : List Row) → All (IsSource (F.state folder.old).content dir rows) sources.old.items
-            → All (IsSource (F.state folder.old).content dir rows) sources.new.items }
-        ensures kept { (dir : List ℕ) (rows : List Row) → IsSlot format (F.state folder.old).content dir rows self.old
-            → All (IsAhead format (F.state folder.old).content dir rows) ahead.old.items
-            → OnOk result (All (IsAhead format (F.state folder.old).content dir rows) ahead.new.items) }
+            → IsBatch format (F.state folder.old).content dir rows batch.old → OnOk result (IsSlot format (F.state folder.old).content dir rows self.new) }
+        ensures batch { (dir : List ℕ) (rows : List Row) → IsSlot format (F.state folder.old).content dir rows self.old
+            → IsBatch format (F.state folder.old).content dir rows batch.old → OnOk result (IsBatch format (F.state folder.old).content dir rows batch.new) }
 
         ensures same { F.state folder.new ≡ F.state folder.old }
         ensures cause { HasCause (F.read_faults folder.old) (F.read_faults folder.new) result }
     {
         let stage = mem::replace(&mut self.stage, Stage::Idle);
-        self.stage = next_stage(
-            alloc,
-            format,
-            folder,
-            &mut self.window,
-            stage,
-            sources,
-            ahead,
-        )?;
+        self.stage = next_stage(alloc, format, folder, &mut self.window, stage, batch)?;
         Ok(())
     }
 

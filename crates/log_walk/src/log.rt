@@ -9,7 +9,7 @@ ghost use Rattle.race_model.specs.IndexFault.{AreRows};
 ghost use Rattle.race_model.specs.Trace.{Trace};
 ghost use Rattle.log_walk.specs.Rules.{log_task_of};
 ghost use Rattle.log_walk.specs.Stack.{IsStackAfter, WalksTask};
-ghost use Rattle.log_walk.specs.Walk.{of_log, Walked, TellsFirstBad, IsUnread, IsTaskOf, RefusesLogOf};
+ghost use Rattle.log_walk.specs.Walk.{of_log, IsUnread, IsTaskOf, RefusesNext};
 
 use crate::check::{LogFault, check_log};
 use crate::fault::WalkFault;
@@ -97,8 +97,7 @@ pub fn walk_log<F: Folder>(
         → OnOk result (WalksTask format (F.state folder.old).content dir.now rows.now stack.new trace row found.old.items found.new.items) }
     ensures place { OnOk result (stack.new.place ≡ stack.old.place + 1) }
     ensures refused { (trace : Trace) (row : Row) → IsStackAfter format rows.now stack.old trace → slice_get rows.now stack.old.place ≡ Some row
-        → IfErr result (λ e. WhereTold (F.state folder.old).content (λ c. Walked format c.held dir.now rows.now trace → TellsFirstBad format c.held dir.now e)) }
-    ensures of_row { (row : Row) → slice_get rows.now stack.old.place ≡ Some row → IfErr result (λ e. RefusesLogOf (λ path. path ≡ row.path) e) }
+        → IfErr result (RefusesNext format (F.state folder.old).content dir.now rows.now trace row) }
     ensures same { F.state folder.new ≡ F.state folder.old }
     ensures later { F.read_faults folder.old ≤ F.read_faults folder.new }
     ensures cause { IsErrOf result WalkFault.ReadFault → Rose (F.read_faults folder.old) (F.read_faults folder.new) }

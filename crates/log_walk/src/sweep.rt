@@ -1,5 +1,5 @@
 //! A folder gone over region by region.
-ghost use Rattle.std.specs.Prelude.{◌≡◌, ◌⊎◌, ◌≤◌, ◌<◌, ◌↔◌, ℕ, List, All, Err, None, length, IfOk, IfErr, IfSome, IsErrOf, IsTrue, OnErr, OnOk};
+ghost use Rattle.std.specs.Prelude.{◌≡◌, ◌⊎◌, ◌≤◌, ◌<◌, ◌↔◌, ℕ, List, All, None, length, IfOk, IfErr, IsErrOf, IsTrue, OnErr};
 ghost use Rattle.sw_base.specs.Environment.{HasCause, WhereTold, Rose};
 ghost use Rattle.log_format.specs.declared.format.Format.{Format};
 ghost use Rattle.log_format.specs.declared.format.TheConstants.{FORMAT};
@@ -8,7 +8,7 @@ ghost use Rattle.race_model.specs.IndexFault.{AreRows};
 ghost use Rattle.log_segment.specs.Regions.{IsUnderRegion};
 ghost use Rattle.log_walk.specs.Ahead.{IsAhead};
 ghost use Rattle.log_walk.specs.Stack.{IsStackAfter};
-ghost use Rattle.log_walk.specs.Sweep.{AreRegions, BeginsSweep, GivesRegion, HasRefused, HasSwept, HasSweptAll, RefusesIndexOrRoot, WalksRegion, logs_left, regions_given};
+ghost use Rattle.log_walk.specs.Sweep.{AnswersNext, AreRegions, BeginsSweep, HasRefused, HasSwept, RefusesIndexOrRoot, WalksRegion, logs_left};
 ghost use Rattle.log_walk.specs.Walk.{TellsFirstBad, RefusesLogOf, Walked};
 
 use crate::ahead::Ahead;
@@ -169,16 +169,7 @@ impl Sweep {
         folder: &mut F,
     ) -> Result<Option<Vec<Segment>>, WalkFault>
         requires swept { (format : Format) × (dir : List ℕ) × (trace : Trace) × HasSwept format (F.state folder.old).content dir self.old trace }
-        ensures region { (format : Format) (dir : List ℕ) (trace : Trace) → HasSwept format (F.state folder.old).content dir self.old trace
-            → IfOk result (λ found. IfSome found (λ segments. GivesRegion format (F.state folder.old).content dir self.old self.new trace segments.items)) }
-        ensures shrinks { IfOk result (λ found. IfSome found (λ _. logs_left self.new < logs_left self.old)) }
-        ensures all { (format : Format) (dir : List ℕ) (trace : Trace) → HasSwept format (F.state folder.old).content dir self.old trace
-            → IfOk result (λ found. found ≡ None → (self.new ≡ self.old) × HasSweptAll format (F.state folder.old).content dir self.old trace) }
-        ensures refused { (format : Format) (dir : List ℕ) (trace : Trace) → HasSwept format (F.state folder.old).content dir self.old trace
-            → IfErr result (λ e. HasRefused self.new e × RefusesLogOf (IsUnderRegion (regions_given self.old)) e
-            × WhereTold (F.state folder.old).content (λ c. TellsFirstBad format c.held dir e) × HasSwept format (F.state folder.old).content dir self.new trace) }
-        ensures unrefused { OnOk result ((e : WalkFault) → HasRefused self.new e → ⊥) }
-        ensures again { (e : WalkFault) → HasRefused self.old e → result ≡ Err e }
+        ensures next { AnswersNext (F.state folder.old).content self.old self.new result }
 
         ensures same { F.state folder.new ≡ F.state folder.old }
         ensures later { F.read_faults folder.old ≤ F.read_faults folder.new }
@@ -197,16 +188,7 @@ impl Sweep {
     ) -> Result<Option<Vec<Segment>>, WalkFault>
         requires workers { 1 ≤ workers }
         requires swept { (format : Format) × (dir : List ℕ) × (trace : Trace) × HasSwept format (F.state folder.old).content dir self.old trace }
-        ensures region { (format : Format) (dir : List ℕ) (trace : Trace) → HasSwept format (F.state folder.old).content dir self.old trace
-            → IfOk result (λ found. IfSome found (λ segments. GivesRegion format (F.state folder.old).content dir self.old self.new trace segments.items)) }
-        ensures shrinks { IfOk result (λ found. IfSome found (λ _. logs_left self.new < logs_left self.old)) }
-        ensures all { (format : Format) (dir : List ℕ) (trace : Trace) → HasSwept format (F.state folder.old).content dir self.old trace
-            → IfOk result (λ found. found ≡ None → (self.new ≡ self.old) × HasSweptAll format (F.state folder.old).content dir self.old trace) }
-        ensures refused { (format : Format) (dir : List ℕ) (trace : Trace) → HasSwept format (F.state folder.old).content dir self.old trace
-            → IfErr result (λ e. HasRefused self.new e × RefusesLogOf (IsUnderRegion (regions_given self.old)) e
-            × WhereTold (F.state folder.old).content (λ c. TellsFirstBad format c.held dir e) × HasSwept format (F.state folder.old).content dir self.new trace) }
-        ensures unrefused { OnOk result ((e : WalkFault) → HasRefused self.new e → ⊥) }
-        ensures again { (e : WalkFault) → HasRefused self.old e → result ≡ Err e }
+        ensures next { AnswersNext (F.state folder.old).content self.old self.new result }
 
         ensures same { F.state folder.new ≡ F.state folder.old }
         ensures later { F.read_faults folder.old ≤ F.read_faults folder.new }
@@ -263,16 +245,7 @@ impl Sweep {
     ) -> Result<Option<Vec<Segment>>, WalkFault>
         requires read { All (IsAhead self.old.format (F.state folder.old).content self.old.dir self.old.rows) ahead.items }
         requires swept { (format : Format) × (dir : List ℕ) × (trace : Trace) × HasSwept format (F.state folder.old).content dir self.old trace }
-        ensures region { (format : Format) (dir : List ℕ) (trace : Trace) → HasSwept format (F.state folder.old).content dir self.old trace
-            → IfOk result (λ found. IfSome found (λ segments. GivesRegion format (F.state folder.old).content dir self.old self.new trace segments.items)) }
-        ensures shrinks { IfOk result (λ found. IfSome found (λ _. logs_left self.new < logs_left self.old)) }
-        ensures all { (format : Format) (dir : List ℕ) (trace : Trace) → HasSwept format (F.state folder.old).content dir self.old trace
-            → IfOk result (λ found. found ≡ None → (self.new ≡ self.old) × HasSweptAll format (F.state folder.old).content dir self.old trace) }
-        ensures refused { (format : Format) (dir : List ℕ) (trace : Trace) → HasSwept format (F.state folder.old).content dir self.old trace
-            → IfErr result (λ e. HasRefused self.new e × RefusesLogOf (IsUnderRegion (regions_given self.old)) e
-            × WhereTold (F.state folder.old).content (λ c. TellsFirstBad format c.held dir e) × HasSwept format (F.state folder.old).content dir self.new trace) }
-        ensures unrefused { OnOk result ((e : WalkFault) → HasRefused self.new e → ⊥) }
-        ensures again { (e : WalkFault) → HasRefused self.old e → result ≡ Err e }
+        ensures next { AnswersNext (F.state folder.old).content self.old self.new result }
 
         ensures same { F.state folder.new ≡ F.state folder.old }
         ensures later { F.read_faults folder.old ≤ F.read_faults folder.new }

@@ -1,6 +1,6 @@
 //! Going over the next log, which may have been read before its turn.
 ghost use Rattle.std.specs.Prelude.{◌≡◌, ◌↔◌, ◌+◌, ◌^◌, ◌≤◌, ◌<◌, ℕ, List, All, Option, Some, length, slice_get, slice_index_or, IfErr, IfSome, IsErrOf, IsTrue, OnOk};
-ghost use Rattle.sw_base.specs.Environment.{Content, WhereTold, Rose};
+ghost use Rattle.sw_base.specs.Environment.{Content, Rose};
 ghost use Rattle.log_format.specs.declared.format.Format.{Format};
 ghost use Rattle.race_model.specs.IndexFault.{AreRows};
 ghost use Rattle.race_model.specs.LogFault.{max_segments};
@@ -8,7 +8,7 @@ ghost use Rattle.race_model.specs.Row.{Row};
 ghost use Rattle.race_model.specs.Trace.{Trace};
 ghost use Rattle.log_walk.specs.Ahead.{StandsAsRead, IsAhead};
 ghost use Rattle.log_walk.specs.Stack.{IsStackAfter, WalksTask};
-ghost use Rattle.log_walk.specs.Walk.{TellsFirstBad, RefusesLogOf, Walked};
+ghost use Rattle.log_walk.specs.Walk.{RefusesNext};
 
 use crate::ahead::Ahead;
 use crate::check::Checked;
@@ -142,8 +142,7 @@ pub fn walk_next<F: Folder>(
     ensures place { OnOk result (stack.new.place ≡ stack.old.place + 1) }
     ensures left { All (IsAhead format (F.state folder.old).content dir.now rows.now) ahead.new.items }
     ensures refused { (trace : Trace) (row : Row) → IsStackAfter format rows.now stack.old trace → slice_get rows.now stack.old.place ≡ Some row
-        → IfErr result (λ e. WhereTold (F.state folder.old).content (λ c. Walked format c.held dir.now rows.now trace → TellsFirstBad format c.held dir.now e)) }
-    ensures of_row { (row : Row) → slice_get rows.now stack.old.place ≡ Some row → IfErr result (λ e. RefusesLogOf (λ path. path ≡ row.path) e) }
+        → IfErr result (RefusesNext format (F.state folder.old).content dir.now rows.now trace row) }
     ensures same { F.state folder.new ≡ F.state folder.old }
     ensures later { F.read_faults folder.old ≤ F.read_faults folder.new }
     ensures cause { IsErrOf result WalkFault.ReadFault → Rose (F.read_faults folder.old) (F.read_faults folder.new) }

@@ -4,9 +4,9 @@ ghost use Rattle.sw_base.specs.Environment.{Content, HasCause};
 ghost use Rattle.log_format.specs.declared.format.Format.{Format};
 ghost use Rattle.race_model.specs.IndexFault.{AreRows};
 ghost use Rattle.race_model.specs.Row.{Row};
-ghost use Rattle.log_walk.specs.Ahead.{IsAhead, IsSlot, IsSource};
+ghost use Rattle.log_walk.specs.Ahead.{IsAhead, IsBatch, IsSlot, IsSource};
 
-use crate::ahead::{Ahead, Slot, Source};
+use crate::ahead::{Ahead, Batch, Slot, Source};
 use crate::spans::spans_of;
 use crate::stack::Stack;
 use crate::sweep::is_under;
@@ -17,7 +17,7 @@ use span_label::Label;
 use std::alloc::Global;
 use std::marker::Sync;
 use std::thread;
-use std::thread::Threads;
+use std::thread::{Threads, join_mut};
 use sw_base::{Folder, Memory, Trouble};
 
 /// Fewer records than these aren't worth a thread.
@@ -160,25 +160,17 @@ fn fill_all<F: Folder>(
     format: Format,
     folder: &mut F,
     slots: &mut [Slot],
-    sources: &mut Vec<Source>,
-    ahead: &mut Vec<Ahead>,
+    batch: &mut Batch,
 ) -> Result<(), Trouble>
-    ensures count { OnOk result (length slots.new ≡ length slots.old) }
     ensures fills { (dir : List ℕ) (rows : List Row) → All (IsSlot format (F.state folder.old).content dir rows) slots.old
-        → All (IsSource (F.state folder.old).content dir rows) sources.old.items
-        → OnOk result (All (IsSlot format (F.state folder.old).content dir rows) slots.new) }
-    ensures left { (dir : List ℕ) (rows : List Row) → All (IsSource (F.state folder.old).content dir rows) sources.old.items
-        → All (IsSource (F.state folder.old).content dir rows) sources.new.items }
-    ensures kept { (dir : List ℕ) (rows : List Row) → All (IsSlot format (F.state folder.old).content dir rows) slots.old
-        → All (IsSource (F.state folder.old).content dir rows) sources.old.items
-        → All (IsAhead format (F.state folder.old).content dir rows) ahead.old.items
-        → OnOk result (All (IsAhead format (F.state folder.old).content dir rows) ahead.new.items) }
+        → IsBatch format (F.state folder.old).content dir rows batch.old
+        → OnOk result (All (IsSlot format (F.state folder.old).content dir rows) slots.new × IsBatch format (F.state folder.old).content dir rows batch.new) }
 
     ensures same { F.state folder.new ≡ F.state folder.old }
     ensures cause { HasCause (F.read_faults folder.old) (F.read_faults folder.new) result }
 {
     for slot in slots.iter_mut() {
-        slot.fill(alloc, format, folder, sources, ahead)?;
+        slot.fill(alloc, format, folder, batch)?;
     }
     Ok(())
 }
@@ -193,7 +185,6 @@ fn go_all<R: Threads + Sync>(
 )
     requires workers { 1 ≤ workers }
     requires so { (told : Option Content) × (dir : List ℕ) × (rows : List Row) × All (IsSlot format told dir rows) slots.old }
-    ensures count { length slots.new ≡ length slots.old }
     ensures goes { (told : Option Content) (dir : List ℕ) (rows : List Row) → All (IsSlot format told dir rows) slots.old → All (IsSlot format told dir rows) slots.new }
 {
     thread::for_each_mut(
@@ -213,33 +204,70 @@ fn are_idle(slots: &[Slot]) -> bool {
     slots.iter().all(|slot| slot.is_idle())
 }
 
-/// Goes over the logs of these sources, and keeps those that are good.
+/// Has workers go over the records that are ahead in some slots, while this thread reads on in the logs of others.
+fn go_and_fill<R: Threads + Sync, F: Folder>(
+    rt: &R,
+    alloc: Global,
+    format: Format,
+    folder: &mut F,
+    workers: usize,
+    going: &mut [Slot],
+    filling: &mut [Slot],
+    batch: &mut Batch,
+) -> Result<(), Trouble>
+    requires workers { 1 ≤ workers }
+    requires so { (told : Option Content) × (dir : List ℕ) × (rows : List Row) × All (IsSlot format told dir rows) going.old }
+    ensures goes { (told : Option Content) (dir : List ℕ) (rows : List Row) → All (IsSlot format told dir rows) going.old → All (IsSlot format told dir rows) going.new }
+    ensures fills { (dir : List ℕ) (rows : List Row) → All (IsSlot format (F.state folder.old).content dir rows) filling.old
+        → IsBatch format (F.state folder.old).content dir rows batch.old
+        → OnOk result (All (IsSlot format (F.state folder.old).content dir rows) filling.new × IsBatch format (F.state folder.old).content dir rows batch.new) }
+
+    ensures same { F.state folder.new ≡ F.state folder.old }
+    ensures cause { HasCause (F.read_faults folder.old) (F.read_faults folder.new) result }
+{
+    if are_idle(going) {
+        return fill_all(alloc, format, folder, filling, batch);
+    }
+    let mut go = ||
+        requires workers { 1 ≤ workers }
+        requires so { (told : Option Content) × (dir : List ℕ) × (rows : List Row) × All (IsSlot format told dir rows) going.now }
+        ensures goes { (told : Option Content) (dir : List ℕ) (rows : List Row) → All (IsSlot format told dir rows) going.entry.now → All (IsSlot format told dir rows) going.exit.now }
+    { go_all(rt, alloc, format, going, workers) };
+    let mut fill = || fill_all(alloc, format, folder, filling, batch);
+    let (_, filled) = join_mut(rt, &mut go, &mut fill);
+    filled
+}
+
+/// Goes over the logs of a batch, and keeps those that are good: the records in half of the slots, while the others are filled.
 fn read_all<R: Threads + Sync, F: Folder>(
     rt: &R,
     alloc: Global,
     format: Format,
     folder: &mut F,
-    mut sources: Vec<Source>,
-    slots: &mut [Slot],
+    mut batch: Batch,
     workers: usize,
+    some: &mut [Slot],
+    others: &mut [Slot],
 ) -> Result<Vec<Ahead>, Trouble>
     requires workers { 1 ≤ workers }
-    requires so { (dir : List ℕ) × (rows : List Row) × All (IsSlot format (F.state folder.old).content dir rows) slots.old × All (IsSource (F.state folder.old).content dir rows) sources.items }
-    ensures ahead { (dir : List ℕ) (rows : List Row) → All (IsSlot format (F.state folder.old).content dir rows) slots.old → All (IsSource (F.state folder.old).content dir rows) sources.items
+    requires so { (dir : List ℕ) × (rows : List Row) × All (IsSlot format (F.state folder.old).content dir rows) some.old
+        × All (IsSlot format (F.state folder.old).content dir rows) others.old × IsBatch format (F.state folder.old).content dir rows batch }
+    ensures ahead { (dir : List ℕ) (rows : List Row) → All (IsSlot format (F.state folder.old).content dir rows) some.old
+        → All (IsSlot format (F.state folder.old).content dir rows) others.old → IsBatch format (F.state folder.old).content dir rows batch
         → IfOk result (λ ahead. All (IsAhead format (F.state folder.old).content dir rows) ahead.items) }
 
     ensures same { F.state folder.new ≡ F.state folder.old }
     ensures cause { HasCause (F.read_faults folder.old) (F.read_faults folder.new) result }
 {
-    let mut ahead = Vec::new(alloc);
+    fill_all(alloc, format, folder, some, &mut batch)?;
     'rounds: for _ in 0..u64::MAX {
-        fill_all(alloc, format, folder, slots, &mut sources, &mut ahead)?;
-        if are_idle(slots) {
-            return Ok(ahead);
+        if are_idle(some) && are_idle(others) {
+            return Ok(batch.ahead);
         }
-        go_all(rt, alloc, format, slots, workers);
+        go_and_fill(rt, alloc, format, folder, workers, some, others, &mut batch)?;
+        go_and_fill(rt, alloc, format, folder, workers, others, some, &mut batch)?;
     }
-    Ok(ahead)
+    Ok(batch.ahead)
 }
 
 /// The logs of the lanes of the root's next region that are good by what their records and rows alone tell, where there are
@@ -271,7 +299,20 @@ pub fn read_ahead<R: Threads + Sync, F: Folder>(
     if count < 2 || records < FEW {
         return Ok(Vec::new(alloc));
     }
-    let mut slots = slots_of(alloc, count, MOST.min(most as usize))?;
+    let size = MOST.min(most as usize);
+    let mut some = slots_of(alloc, count, size)?;
+    let mut others = slots_of(alloc, count.min(lanes.len() - count), size)?;
     let sources = sources_of(alloc, folder, dir, rows, &lanes, fork)?;
-    read_all(rt, alloc, format, folder, sources, &mut slots, workers)
+    let ahead = Vec::new(alloc);
+    let batch = Batch { sources, ahead };
+    read_all(
+        rt,
+        alloc,
+        format,
+        folder,
+        batch,
+        workers,
+        &mut some,
+        &mut others,
+    )
 }

@@ -50,10 +50,6 @@ refused_gives place path c own draws trouble old_text is task dir own_path tells
       λ none. cc,
     )
 
-tells_still : (f : Text → Text) (text : Option Text) → is_some (option_map f text) ≡ is_some text
-tells_still f None = refl
-tells_still f (Some t) = refl
-
 pub lane_begins : (place : LogPlace) (path : List Step) (slots own_slots : List ℤ) (draws : HandValue Share) (hand : HandValue View) (dir : List ℕ) (log_path : List Step) (text : Option Text) (faults size : ℕ) (b : Buffered) (at : Progress) (m : LaneValue)
     → m ≡ record { path = path; locals = own_slots; hand = at.hand; buffer = at.buffer; tally = at.tally; done = at.done; stopped = None } → at ≡ record { hand = hand; buffer = b; tally = record { draws = draws; next_loop = 0; forked = 0 }; done = [] }
     → b ≡ record { dir = dir; path = log_path; text = option_map (with_piece (log_header FORMAT)) text; faults = faults; size = size; sent = []; waiting = []; count = 0; refused = None } → own_slots ≡ slots → log_path ≡ path
@@ -68,7 +64,7 @@ lane_begins place path slots own_slots draws hand dir log_path text faults size 
       own = ap (λ (x : Buffered). x.path) b_is ∙ own;
       place_is =
           ap (λ (x : Buffered). place_of x) b_is
-          ∙ ap (λ (t : Bool). record { dir = dir; size = size; tells = t }) (tells_still (with_piece (log_header FORMAT)) text)
+          ∙ ap (λ (t : Bool). record { dir = dir; size = size; tells = t }) (still text)
           ∙ sym place_is;
       none_put = ap (λ (x : Buffered). x.count) b_is;
       unrefused = ap (λ (x : Buffered). x.refused) b_is;
@@ -76,6 +72,10 @@ lane_begins place path slots own_slots draws hand dir log_path text faults size 
       tally = refl;
       none_handed = refl;
     }))
+  where
+    still : (o : Option Text) → is_some (option_map (with_piece (log_header FORMAT)) o) ≡ is_some o
+    still None = refl
+    still (Some t) = refl
 
 -- ---- one lane after another
 

@@ -81,10 +81,6 @@ module _ (w : WorldValue) (crew : CrewValue) (team : TeamTree) (slots : List ℤ
   begins : (k : ℕ) (x : LaneValue) → k < crew.span → LaneBegins (place_of task) (lane_of at number k team.span) slots (lent_hand share) (slice_index_or before k x)
   begins k x less = begin.each k x (subst (λ (n : ℕ). k < n) span_is less)
 
-  goes : (k : ℕ) (less : k < crew.span)
-      → TaskGoes (world_of crew k) (task_part (site (world_of crew k)) ran.done ran.end) slots (now k).locals (progress (start k)) (ran.stands.lanes k d less).last (lane_works k ran.phases) (answer_of (halt_in (now k)))
-  goes = lane_goes crew team slots items old new before after (place_of task) at number (λ k. lent_hand share) span_is runs ran begins (λ k less. refl) d
-
   halt_same : (k : ℕ) → k < crew.span → (closed k).halt ≡ halt_in (now k)
   halt_same k less = (closes k d e less).4
 
@@ -105,7 +101,7 @@ module _ (w : WorldValue) (crew : CrewValue) (team : TeamTree) (slots : List ℤ
       (subst (λ (p : List Step). IsClosedAs (closed k).own (closed k).refused p (now k).buffer) (sym c.0) c.1))
       (c.2 ∙ stands.up.done) b.none_handed b.holds (ap (λ (t : Tally). t.forked) b.tally) (b.own ∙ sym (path_same k less)) b.place_is
       (subst (λ (h : Option Halt). TaskGoes (world_of crew k) (task_part (site (world_of crew k)) ran.done ran.end) slots (now k).locals (progress (start k)) stands.last (lane_works k ran.phases) (answer_of h)) (sym (halt_same k less))
-      (goes k less))
+      (lane_goes crew team slots items old new before after (place_of task) at number (λ k. lent_hand share) span_is runs ran begins (λ k less. refl) d k less))
 
   halts : (k : ℕ) (h : Halt) → k < team.span → (closed k).halt ≡ Some h → StopsTask w.arrays (closed k).path (stop_of (closed k).path h).0 (stop_of (closed k).path h).1 (lane_begin fork k) (lane_works k ran.phases)
   halts k h less' is =

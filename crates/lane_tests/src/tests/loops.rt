@@ -6,10 +6,10 @@ ghost use Rattle.kernel_syntax.specs.Program.{code_of, stmt_code};
 ghost use Rattle.kernel_syntax.specs.Tree.{Done};
 ghost use Rattle.kernel_model.specs.Parts.{drawn_count};
 ghost use Rattle.kernel_model.specs.Phases.{part_of_stmt};
-ghost use Rattle.lane_runner.specs.Alone.{IsAlone};
+ghost use Rattle.lane_tests.specs.Lone.{IsLone};
 ghost use Rattle.lane_runner.specs.Phase.{IsOfTeam};
 
-use crate::tests::one_lane::{Setting, accessed, goes_on, lane_over};
+use crate::tests::one_lane::{Setting, accessed, executed, lane_over};
 use crate::tests::statements::summing;
 use kernel_syntax::{Body, Expr, Schedule, Stmt};
 use log_format::{Kind, Record};
@@ -22,8 +22,7 @@ use sw_base::Trouble;
 // A worksharing loop over variable 0, from 0 to below this number.
 fn shared(to: i64, schedule: Schedule, body: Body) -> Stmt
     requires schedule { IsBoundedSchedule schedule }
-    requires bounded { IsBoundedCode (code_of body.stmts.items) }
-    requires alone { IsAlone 1 [] (code_of body.stmts.items) }
+    requires lone { IsLone [] (code_of body.stmts.items) }
     ensures bounded { IsBoundedCode (stmt_code result Done) }
     ensures own { IsOfTeam 1 (stmt_code result Done) }
     ensures drawn { drawn_count (part_of_stmt result ∷ []) ≤ 1 }
@@ -80,7 +79,7 @@ fn goes_round<R: Threads + Wait + Copy + Send + 'static>(
     requires schedule { IsBoundedSchedule schedule }
 {
     let stmt = shared(to, schedule, summing(alloc, 5)?);
-    goes_on(rt, alloc, setting, stmt, records)
+    Ok(executed(rt, alloc, setting, &stmt)?.went_on(records))
 }
 
 #[test]

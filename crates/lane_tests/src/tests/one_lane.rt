@@ -7,7 +7,7 @@ ghost use Rattle.kernel_syntax.specs.Tree.{Done};
 ghost use Rattle.kernel_model.specs.Parts.{drawn_count};
 ghost use Rattle.kernel_model.specs.Phases.{part_of_stmt};
 ghost use Rattle.shared_words.specs.Handles.{Belongs};
-ghost use Rattle.lane_runner.specs.Alone.{IsAlone};
+ghost use Rattle.lane_tests.specs.Lone.{IsLone};
 ghost use Rattle.lane_runner.specs.Phase.{IsOfTeam};
 
 use crate::tests::support::{buffer_failing, is_log_of, log_of, without_memory};
@@ -142,30 +142,12 @@ pub(crate) fn alone<R: Threads + Wait + Copy + Send + 'static>(
 ) -> Result<Left, Trouble>
     requires width { IsWidth setting.now.width }
     requires lane { setting.now.lane < 2 }
-    requires bounded { IsBoundedCode (stmt_code stmt Done) }
-    requires alone { IsAlone 1 [] (stmt_code stmt Done) }
+    requires lone { IsLone [] (stmt_code stmt Done) }
 {
     executed(rt, alloc, setting, &stmt)
 }
 
-/// Whether the lane goes on that executes a statement of its team, and leaves these records.
-pub(crate) fn goes_on<R: Threads + Wait + Copy + Send + 'static>(
-    rt: &R,
-    alloc: Global,
-    setting: &Setting,
-    stmt: Stmt,
-    records: &[Record],
-) -> Result<bool, Trouble>
-    requires width { IsWidth setting.now.width }
-    requires lane { setting.now.lane < 2 }
-    requires bounded { IsBoundedCode (stmt_code stmt Done) }
-    requires own { IsOfTeam 1 (stmt_code stmt Done) }
-    requires drawn { drawn_count (part_of_stmt stmt ∷ []) ≤ 1 }
-{
-    Ok(executed(rt, alloc, setting, &stmt)?.went_on(records))
-}
-
-/// The same of a statement without its team.
+/// Whether the lane goes on that executes a statement without its team, and leaves these records.
 pub(crate) fn goes_on_alone<R: Threads + Wait + Copy + Send + 'static>(
     rt: &R,
     alloc: Global,
@@ -175,8 +157,7 @@ pub(crate) fn goes_on_alone<R: Threads + Wait + Copy + Send + 'static>(
 ) -> Result<bool, Trouble>
     requires width { IsWidth setting.now.width }
     requires lane { setting.now.lane < 2 }
-    requires bounded { IsBoundedCode (stmt_code stmt Done) }
-    requires alone { IsAlone 1 [] (stmt_code stmt Done) }
+    requires lone { IsLone [] (stmt_code stmt Done) }
 {
     Ok(alone(rt, alloc, setting, stmt)?.went_on(records))
 }

@@ -5,7 +5,7 @@ ghost use Rattle.kernel_syntax.specs.Program.{code_of, stmt_code};
 ghost use Rattle.kernel_syntax.specs.Tree.{Done};
 ghost use Rattle.kernel_model.specs.Parts.{drawn_count};
 ghost use Rattle.kernel_model.specs.Phases.{part_of_stmt};
-ghost use Rattle.lane_runner.specs.Alone.{IsAlone};
+ghost use Rattle.lane_tests.specs.Lone.{IsLone};
 ghost use Rattle.lane_runner.specs.Phase.{IsOfTeam};
 
 use crate::tests::one_lane::{executed, lane_over};
@@ -20,8 +20,7 @@ use sw_base::Trouble;
 
 fn region(body: Body) -> Stmt
     requires bounded { IsBoundedCode (code_of body.stmts.items) }
-    ensures bounded { IsBoundedCode (stmt_code result Done) }
-    ensures alone { IsAlone 1 [] (stmt_code result Done) }
+    ensures { IsLone [] (stmt_code result Done) }
 {
     let team = Team {
         span: 2,
@@ -34,8 +33,7 @@ fn region(body: Body) -> Stmt
 
 // A region where variable 0 isn't 0.
 fn region_past_zero(alloc: Global) -> Result<Body, Trouble>
-    ensures bounded { IfOk result (λ b. IsBoundedCode (code_of b.stmts.items)) }
-    ensures alone { IfOk result (λ b. IsAlone 1 [] (code_of b.stmts.items)) }
+    ensures { IfOk result (λ b. IsLone [] (code_of b.stmts.items)) }
 {
     let region = only(alloc, region(nothing(alloc)))?;
     only(alloc, tested(region, nothing(alloc)))
@@ -43,8 +41,7 @@ fn region_past_zero(alloc: Global) -> Result<Body, Trouble>
 
 // A worksharing loop over variable 0, from 0 to 1, in even shares.
 fn in_shares(body: Body) -> Stmt
-    requires bounded { IsBoundedCode (code_of body.stmts.items) }
-    requires alone { IsAlone 1 [] (code_of body.stmts.items) }
+    requires lone { IsLone [] (code_of body.stmts.items) }
     ensures bounded { IsBoundedCode (stmt_code result Done) }
     ensures own { IsOfTeam 1 (stmt_code result Done) }
     ensures undrawn { drawn_count (part_of_stmt result ∷ []) ≡ 0 }

@@ -1,10 +1,10 @@
 //! Statements that one lane executes, with the records that they put.
 ghost use Rattle.std.specs.Prelude.{◌≡◌, false, [], ◌∷◌, IfOk};
 ghost use Rattle.log_format.specs.Fitting.{IsWidth};
-ghost use Rattle.kernel_syntax.specs.Bounds.{IsBoundedCode, IsBoundedTerm, IsLine};
+ghost use Rattle.kernel_syntax.specs.Bounds.{IsBoundedTerm, IsLine};
 ghost use Rattle.kernel_syntax.specs.Program.{code_of, stmt_code, term_of};
 ghost use Rattle.kernel_syntax.specs.Tree.{Done};
-ghost use Rattle.lane_runner.specs.Alone.{IsAlone};
+ghost use Rattle.lane_tests.specs.Lone.{IsLone};
 
 use crate::tests::one_lane::{Left, Setting, accessed, alone, goes_on_alone, lane_over};
 use crate::tests::support::{in_loop, is_log_of, nothing, only, step, tested};
@@ -48,9 +48,8 @@ fn store(index: Expr, value: Expr, line: u32) -> Stmt
     requires line { IsLine line }
     requires index { IsBoundedTerm (term_of index) }
     requires value { IsBoundedTerm (term_of value) }
-    ensures bounded { IsBoundedCode (stmt_code result Done) }
-    ensures alone { IsAlone 1 [] (stmt_code result Done) }
-    ensures held { IsAlone 1 (0 ∷ []) (stmt_code result Done) }
+    ensures lone { IsLone [] (stmt_code result Done) }
+    ensures held { IsLone (0 ∷ []) (stmt_code result Done) }
 {
     Stmt::Store {
         array: 0,
@@ -63,9 +62,8 @@ fn store(index: Expr, value: Expr, line: u32) -> Stmt
 
 // The sum of the first element and a number is stored in the element of variable 0.
 fn sum(alloc: Global, number: i64) -> Result<Stmt, Trouble>
-    ensures bounded { IfOk result (λ s. IsBoundedCode (stmt_code s Done)) }
-    ensures alone { IfOk result (λ s. IsAlone 1 [] (stmt_code s Done)) }
-    ensures held { IfOk result (λ s. IsAlone 1 (0 ∷ []) (stmt_code s Done)) }
+    ensures lone { IfOk result (λ s. IsLone [] (stmt_code s Done)) }
+    ensures held { IfOk result (λ s. IsLone (0 ∷ []) (stmt_code s Done)) }
 {
     let value = binary(alloc, Op::Add, first(alloc)?, Expr::Number(number))?;
     Ok(store(Expr::Slot(0), value, 3))
@@ -73,10 +71,8 @@ fn sum(alloc: Global, number: i64) -> Result<Stmt, Trouble>
 
 /// A statement in a critical section.
 pub(crate) fn critical(alloc: Global, stmt: Stmt) -> Result<Stmt, Trouble>
-    requires bounded { IsBoundedCode (stmt_code stmt Done) }
-    requires alone { IsAlone 1 (0 ∷ []) (stmt_code stmt Done) }
-    ensures bounded { IfOk result (λ s. IsBoundedCode (stmt_code s Done)) }
-    ensures alone { IfOk result (λ s. IsAlone 1 [] (stmt_code s Done)) }
+    requires lone { IsLone (0 ∷ []) (stmt_code stmt Done) }
+    ensures { IfOk result (λ s. IsLone [] (stmt_code s Done)) }
 {
     let stmts = vec![in alloc; stmt]?;
     Ok(Stmt::Critical {
@@ -90,18 +86,15 @@ pub(crate) fn critical(alloc: Global, stmt: Stmt) -> Result<Stmt, Trouble>
 // Variable 1 gets this value.
 fn set(value: Expr) -> Stmt
     requires value { IsBoundedTerm (term_of value) }
-    ensures bounded { IsBoundedCode (stmt_code result Done) }
-    ensures alone { IsAlone 1 [] (stmt_code result Done) }
+    ensures { IsLone [] (stmt_code result Done) }
 {
     Stmt::Set { slot: 1, value }
 }
 
 // A loop from the lane's number to the number of lanes.
 fn from_lane_to_span(body: Body) -> Stmt
-    requires bounded { IsBoundedCode (code_of body.stmts.items) }
-    requires alone { IsAlone 1 [] (code_of body.stmts.items) }
-    ensures bounded { IsBoundedCode (stmt_code result Done) }
-    ensures alone { IsAlone 1 [] (stmt_code result Done) }
+    requires lone { IsLone [] (code_of body.stmts.items) }
+    ensures { IsLone [] (stmt_code result Done) }
 {
     Stmt::Loop {
         slot: 0,
@@ -134,8 +127,7 @@ fn a_variable_is_set_without_a_record(rt: HostRuntime) {
 
 // A body in which the sum of the first element and a number is stored in the element of variable 0.
 pub(crate) fn summing(alloc: Global, number: i64) -> Result<Body, Trouble>
-    ensures bounded { IfOk result (λ b. IsBoundedCode (code_of b.stmts.items)) }
-    ensures alone { IfOk result (λ b. IsAlone 1 [] (code_of b.stmts.items)) }
+    ensures { IfOk result (λ b. IsLone [] (code_of b.stmts.items)) }
 {
     only(alloc, sum(alloc, number)?)
 }
@@ -234,8 +226,7 @@ fn an_index_outside_its_array_stops(rt: HostRuntime) {
 
 // 1 by the lane's number less 1 is stored in the first element.
 fn quotient(alloc: Global) -> Result<Stmt, Trouble>
-    ensures bounded { IfOk result (λ s. IsBoundedCode (stmt_code s Done)) }
-    ensures alone { IfOk result (λ s. IsAlone 1 [] (stmt_code s Done)) }
+    ensures { IfOk result (λ s. IsLone [] (stmt_code s Done)) }
 {
     let divisor = binary(alloc, Op::Sub, Expr::Tid, Expr::Number(1))?;
     let value = binary(alloc, Op::Div, Expr::Number(1), divisor)?;

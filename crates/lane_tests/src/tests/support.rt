@@ -1,11 +1,10 @@
 //! Statements and regions for lanes, and buffers and logs with what is in them.
 ghost use Rattle.std.specs.Prelude.{◌≡◌, [], ◌∷◌, Some, Err, IfOk};
-ghost use Rattle.kernel_syntax.specs.Bounds.{IsBoundedCode};
 ghost use Rattle.kernel_syntax.specs.Program.{code_of, stmt_code};
 ghost use Rattle.kernel_syntax.specs.Tree.{Done};
 ghost use Rattle.kernel_model.specs.Parts.{drawn_count};
 ghost use Rattle.kernel_model.specs.Phases.{part_of_stmt};
-ghost use Rattle.lane_runner.specs.Alone.{IsAlone};
+ghost use Rattle.lane_tests.specs.Lone.{IsLone};
 ghost use Rattle.lane_runner.specs.Phase.{IsOfTeam};
 ghost use Rattle.sw_base.specs.Environment.{empty_text};
 ghost use Rattle.memory_environment.specs.MemLog.{path_of, text_of, faults_of};
@@ -103,8 +102,7 @@ pub(crate) fn without_memory(
 
 /// A body without a statement.
 pub(crate) fn nothing(alloc: Global) -> Body
-    ensures bounded { IsBoundedCode (code_of result.stmts.items) }
-    ensures alone { IsAlone 1 [] (code_of result.stmts.items) }
+    ensures { IsLone [] (code_of result.stmts.items) }
 {
     Body {
         stmts: Vec::new(alloc),
@@ -113,10 +111,8 @@ pub(crate) fn nothing(alloc: Global) -> Body
 
 /// A body of one statement.
 pub(crate) fn only(alloc: Global, stmt: Stmt) -> Result<Body, Trouble>
-    requires bounded { IsBoundedCode (stmt_code stmt Done) }
-    requires alone { IsAlone 1 [] (stmt_code stmt Done) }
-    ensures bounded { IfOk result (λ b. IsBoundedCode (code_of b.stmts.items)) }
-    ensures alone { IfOk result (λ b. IsAlone 1 [] (code_of b.stmts.items)) }
+    requires lone { IsLone [] (stmt_code stmt Done) }
+    ensures { IfOk result (λ b. IsLone [] (code_of b.stmts.items)) }
 {
     let stmts = vec![in alloc; stmt]?;
     Ok(Body { stmts })
@@ -124,12 +120,9 @@ pub(crate) fn only(alloc: Global, stmt: Stmt) -> Result<Body, Trouble>
 
 /// A test of variable 0.
 pub(crate) fn tested(yes: Body, no: Body) -> Stmt
-    requires bounded { IsBoundedCode (code_of yes.stmts.items) }
-    requires alone { IsAlone 1 [] (code_of yes.stmts.items) }
-    requires no_bounded { IsBoundedCode (code_of no.stmts.items) }
-    requires no_alone { IsAlone 1 [] (code_of no.stmts.items) }
-    ensures bounded { IsBoundedCode (stmt_code result Done) }
-    ensures alone { IsAlone 1 [] (stmt_code result Done) }
+    requires lone { IsLone [] (code_of yes.stmts.items) }
+    requires no_lone { IsLone [] (code_of no.stmts.items) }
+    ensures { IsLone [] (stmt_code result Done) }
 {
     Stmt::If {
         test: Expr::Slot(0),
@@ -140,10 +133,8 @@ pub(crate) fn tested(yes: Body, no: Body) -> Stmt
 
 /// A loop over a variable, from 0 to 1.
 pub(crate) fn in_loop(slot: u32, body: Body) -> Stmt
-    requires bounded { IsBoundedCode (code_of body.stmts.items) }
-    requires alone { IsAlone 1 [] (code_of body.stmts.items) }
-    ensures bounded { IsBoundedCode (stmt_code result Done) }
-    ensures alone { IsAlone 1 [] (stmt_code result Done) }
+    requires lone { IsLone [] (code_of body.stmts.items) }
+    ensures lone { IsLone [] (stmt_code result Done) }
     ensures own { IsOfTeam 1 (stmt_code result Done) }
     ensures undrawn { drawn_count (part_of_stmt result ∷ []) ≡ 0 }
 {

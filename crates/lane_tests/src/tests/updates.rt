@@ -1,10 +1,10 @@
 //! Updates that one lane executes: what they record, what is read after them, and where they stop.
 ghost use Rattle.std.specs.Prelude.{◌≡◌, [], ◌∷◌, IfOk};
 ghost use Rattle.log_format.specs.Fitting.{IsWidth};
-ghost use Rattle.kernel_syntax.specs.Bounds.{IsBoundedCode, IsBoundedTerm, IsLine};
+ghost use Rattle.kernel_syntax.specs.Bounds.{IsBoundedTerm, IsLine};
 ghost use Rattle.kernel_syntax.specs.Program.{stmt_code, term_of};
 ghost use Rattle.kernel_syntax.specs.Tree.{Done};
-ghost use Rattle.lane_runner.specs.Alone.{IsAlone};
+ghost use Rattle.lane_tests.specs.Lone.{IsLone};
 
 use crate::tests::one_lane::{Left, accessed, alone, goes_on_alone, lane_over};
 use crate::tests::statements::{binary, critical, first};
@@ -23,9 +23,8 @@ fn update(index: Expr, value: Expr, minus: bool, line: u32) -> Stmt
     requires line { IsLine line }
     requires index { IsBoundedTerm (term_of index) }
     requires value { IsBoundedTerm (term_of value) }
-    ensures bounded { IsBoundedCode (stmt_code result Done) }
-    ensures alone { IsAlone 1 [] (stmt_code result Done) }
-    ensures held { IsAlone 1 (0 ∷ []) (stmt_code result Done) }
+    ensures lone { IsLone [] (stmt_code result Done) }
+    ensures held { IsLone (0 ∷ []) (stmt_code result Done) }
 {
     Stmt::Update {
         array: 0,

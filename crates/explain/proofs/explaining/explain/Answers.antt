@@ -3,9 +3,8 @@ use Rattle.std.proofs.lemmas.Result.{IfOk-weaker}
 use Rattle.log_segment.specs.declared.segment.Segment.{Segment}
 use Rattle.race_model.specs.Trace.{Trace}
 use Rattle.explain.specs.Suspects.{HoldAccesses}
-use Rattle.explain.proofs.Answering.{on_ok_of}
 use Rattle.explain.proofs.Pairs.{exact_pair}
-use Rattle.explain.proofs.Runs.{good_run, same_trace}
+use Rattle.explain.proofs.Runs.{good_run, same_trace, walks_folder}
 use Rattle.explain.proofs.explaining.explain.Goals as goal
 
 pub returns-clause-explained : goal.returns-clause-explained
@@ -18,5 +17,5 @@ pub returns-clause-pair : goal.returns-clause-pair
 returns-clause-pair g c = λ x told trace holds.
     IfOk-weaker c.least_among.result _ _ (λ answer is. exact_pair trace (c.args.low, c.args.high) answer is) (returns-clause-explained g c x told trace holds)
 
-pub returns-clause-holds : goal.returns-clause-holds
-returns-clause-holds g c = on_ok_of c.least_among.result (λ x told. let all = c.in_ok-sweep.ensures.all in (all.0, all.1.holds x told))
+pub returns-clause-walks : goal.returns-clause-walks
+returns-clause-walks g c = let all = c.in_ok-sweep.ensures.all in walks_folder _ _ _ _ c.least_among.result all.1 c.least_among.ensures.only_faults

@@ -19,7 +19,7 @@ returns-in_err-region-clause-refused g c =
     let p = err_from_is_err_and c.from_residual-in_err-region.result c.from_residual-in_err-region.ensures.1 in
     let so = c.regions.invariant.so in
     let now = subst (λ (t : Option Content). HasSwept FORMAT t c.args.dir.now c.regions.sweep so.trace) (sym (same_content c.regions.invariant.same)) so.swept in
-    rw (p.1, p.2) (λ x told. (c.in_err-region.ensures.refused FORMAT c.args.dir.now so.trace now).2 x (same_content c.regions.invariant.same ∙ told))
+    rw (p.1, p.2) (λ x told. (c.in_err-region.ensures.next.refused FORMAT c.args.dir.now so.trace now).2 x (same_content c.regions.invariant.same ∙ told))
 
 pub regions-init : goal.regions-init
 regions-init g c =
@@ -37,14 +37,14 @@ pub regions-preserved : goal.regions-preserved
 regions-preserved g c =
     let so = c.regions.invariant.so in
     let now = subst (λ (t : Option Content). HasSwept FORMAT t c.args.dir.now c.regions.sweep so.trace) (sym (same_content c.regions.invariant.same)) so.swept in
-    let gives = rw c.in-Some.is at (c.in_ok-region.ensures.region FORMAT c.args.dir.now so.trace now) in
+    let gives = rw c.in-Some.is at (c.in_ok-region.ensures.next.region FORMAT c.args.dir.now so.trace now) in
     record {
       all = c.regions.invariant.all ++ c.in-Some.region.items;
       so = walked_more (g.F.Folder.state c.args.folder.now).content c.args.dir.now c.regions.sweep c.next.new.self c.regions.invariant.all c.in-Some.region.items so
           (subst (λ (t : Option Content). GivesRegion FORMAT t c.args.dir.now c.regions.sweep c.next.new.self so.trace c.in-Some.region.items) (same_content c.regions.invariant.same) gives);
       keeps = keeps_more c.args.lines c.regions.invariant.all c.in-Some.region.items c.regions.kept.items c.keep_lines-in-Some.new.kept.items c.in_ok-keep_lines-2.ensures.old c.regions.invariant.keeps
           (subst (λ (xs : List Segment). Keeps (IsOnLines c.args.lines) xs c.keep_lines-in-Some.new.kept.items) c.deref-in-Some.ensures.value c.in_ok-keep_lines-2.ensures.keeps);
-      fresh = c.in_ok-region.ensures.unrefused;
+      fresh = c.in_ok-region.ensures.next.unrefused;
       same = c.in_ok-region.ensures.same ∙ c.regions.invariant.same;
       later = omega (arith, c.in_ok-region.ensures.later, c.regions.invariant.later);
     }
@@ -53,7 +53,7 @@ pub returns-clause-all : goal.returns-clause-all
 returns-clause-all g c =
     let so = c.regions.invariant.so in
     let now = subst (λ (t : Option Content). HasSwept FORMAT t c.args.dir.now c.regions.sweep so.trace) (sym (same_content c.regions.invariant.same)) so.swept in
-    let both = c.in_ok-region.ensures.all FORMAT c.args.dir.now so.trace now c.in_default.is in
+    let both = c.in_ok-region.ensures.next.all FORMAT c.args.dir.now so.trace now c.in_default.is in
     let all = both.1 in (
       so.trace,
       subst (λ (s : Sweep). HasSweptAll FORMAT (g.F.Folder.state c.args.folder.now).content c.args.dir.now s so.trace) (sym both.0)

@@ -25,19 +25,19 @@ returns-in_err-segments-clause-refused g c =
     let p = err_from_is_err_and c.from_residual-in_err-segments.result c.from_residual-in_err-segments.ensures.1 in
     let swept = c.regions.invariant.swept in
     let now = subst (λ (t : Option Content). HasSwept FORMAT t c.args.dir.now c.regions.sweep swept.trace) (sym (same_content c.regions.invariant.same)) swept.swept in
-    rw (p.1, p.2) (λ x told. (c.in_err-segments.ensures.refused FORMAT c.args.dir.now swept.trace now).2 x (same_content c.regions.invariant.same ∙ told))
+    rw (p.1, p.2) (λ x told. (c.in_err-segments.ensures.next.refused FORMAT c.args.dir.now swept.trace now).2 x (same_content c.regions.invariant.same ∙ told))
 
 pub regions-preserved : goal.regions-preserved
 regions-preserved g c = record {
   swept =
       let swept = c.regions.invariant.swept in
       let now = subst (λ (t : Option Content). HasSwept FORMAT t c.args.dir.now c.regions.sweep swept.trace) (sym (same_content c.regions.invariant.same)) swept.swept in
-      let gives = rw c.in-Some.is at (c.in_ok-segments.ensures.region FORMAT c.args.dir.now swept.trace now) in
+      let gives = rw c.in-Some.is at (c.in_ok-segments.ensures.next.region FORMAT c.args.dir.now swept.trace now) in
       let lists = rw c.deref.ensures.value at c.in_ok-found.ensures in
       SweptPairs-next (g.F.Folder.state c.args.folder.now).content c.args.dir.now c.regions.sweep c.next_by.new.self c.regions.pairs.keys c.in_ok-found.found.keys c.unite.new.pairs.keys c.in-Some.segments.items swept
       (subst (λ (t : Option Content). GivesRegion FORMAT t c.args.dir.now c.regions.sweep c.next_by.new.self swept.trace c.in-Some.segments.items) (same_content c.regions.invariant.same) gives)
       lists c.in_ok-unite.ensures.added;
-  fresh = c.in_ok-segments.ensures.unrefused;
+  fresh = c.in_ok-segments.ensures.next.unrefused;
   same = c.in_ok-segments.ensures.same ∙ c.regions.invariant.same;
   later = omega (arith, c.in_ok-segments.ensures.later, c.regions.invariant.later);
 }
@@ -46,6 +46,6 @@ pub returns-clause-pairs : goal.returns-clause-pairs
 returns-clause-pairs g c =
     let swept = c.regions.invariant.swept in
     let now = subst (λ (t : Option Content). HasSwept FORMAT t c.args.dir.now c.regions.sweep swept.trace) (sym (same_content c.regions.invariant.same)) swept.swept in
-    let all = (c.in_ok-segments.ensures.all FORMAT c.args.dir.now swept.trace now c.in_default.is).1 in
+    let all = (c.in_ok-segments.ensures.next.all FORMAT c.args.dir.now swept.trace now c.in_default.is).1 in
     SweptPairs-all (g.F.Folder.state c.args.folder.now).content c.args.dir.now c.regions.sweep c.regions.pairs.keys swept
     (subst (λ (t : Option Content). HasSweptAll FORMAT t c.args.dir.now c.regions.sweep swept.trace) (same_content c.regions.invariant.same) all) (search rules)

@@ -41,8 +41,8 @@ rows-preserved g c = record {
       (λ logs keeps whole counted ahead fits.
       subst (λ (o : Option ℕ). ComparesTask program logs c.row-item.result.path old new o) c.in_default.is
       (c.in_ok-number.ensures.compares x (ap (λ s. s.content) c.rows.invariant.same ∙ told) logs keeps whole counted ahead fits)));
-  same = c.in_ok-number.ensures.same ∙ c.rows.invariant.same;
-  later = omega (arith, c.in_ok-number.ensures.later, c.rows.invariant.later);
+  same = c.in_ok-number.ensures.keeps.same ∙ c.rows.invariant.same;
+  later = omega (arith, c.in_ok-number.ensures.keeps.later, c.rows.invariant.later);
 }
 
 pub returns-in-Some-clause-compares : goal.returns-in-Some-clause-compares

@@ -22,10 +22,10 @@ rows-preserved g c = record {
       (subst (λ (r : Row). (g.F.Folder.state c.bring_log.new.folder).content ≡ Some (with_put (log_name c.args.new.now r.path) (log_bytes (log_header FORMAT) next.task.records) now)) c.row.view_is
       (c.in_ok-bring_log.ensures.done now so_far next.task.records (subst (λ (r : Row). IsWholeLog First now.held c.args.dir.now r.path next.task.records) (sym c.row.view_is) whole)
       (ap (λ (r : Row). r.records) (c.row.view_is ∙ next.row_is))));
-  later = omega (arith, c.in_ok-bring_log.ensures.later, c.rows.invariant.later);
-  same_faults = c.in_ok-bring_log.ensures.no_fault ∙ c.rows.invariant.same_faults;
-  same_roots = c.in_ok-bring_log.ensures.same_roots ∙ c.rows.invariant.same_roots;
-  tells = c.in_ok-bring_log.ensures.tells ∙ c.rows.invariant.tells;
+  later = omega (arith, c.in_ok-bring_log.ensures.counts.later, c.rows.invariant.later);
+  same_faults = c.in_ok-bring_log.ensures.counts.no_fault ∙ c.rows.invariant.same_faults;
+  same_roots = c.in_ok-bring_log.ensures.counts.same_roots ∙ c.rows.invariant.same_roots;
+  tells = c.in_ok-bring_log.ensures.counts.tells ∙ c.rows.invariant.tells;
 }
 
 pub returns-in_err-bring_log-clause-refused : goal.returns-in_err-bring_log-clause-refused

@@ -28,16 +28,11 @@ returns-in_err-name-clause-refused g c = λ trace row stands told_row.
     let read : slice_get c.args.rows.now c.args.stack.now.place ≡ Some (record { path = c.row.inside.path; records = c.row.inside.records }) = row_read c.args.rows.now c.args.stack.now.place c.index-rows-stack.result _ c.requires.within c.index-rows-stack.is c.row.view_is in
     let p = err_from_is_err_and c.from_residual.result c.from_residual.ensures.1 in
     let at = ap (λ (n : ℕ). slice_get c.args.rows.now n) (sym stands.place) ∙ read in
-    rw (p.1, p.2) (λ content told walked.
-    unread_told (g.F.Folder.state c.args.folder.now).content content c.args.dir.now c.args.rows.now trace mine c.in_err-name.field-0.0 told walked at c.in_err-name.ensures.unread)
-
-pub returns-in_err-name-clause-of_row : goal.returns-in_err-name-clause-of_row
-returns-in_err-name-clause-of_row g c = λ row told_row.
-    let mine : Row = record { path = c.row.inside.path; records = c.row.inside.records } in
-    let read : slice_get c.args.rows.now c.args.stack.now.place ≡ Some (record { path = c.row.inside.path; records = c.row.inside.records }) = row_read c.args.rows.now c.args.stack.now.place c.index-rows-stack.result _ c.requires.within c.index-rows-stack.is c.row.view_is in
-    let p = err_from_is_err_and c.from_residual.result c.from_residual.ensures.1 in
     let same : mine ≡ row = same_Some mine row (sym read ∙ told_row) in
-    rw (p.1, p.2) (unread_of (g.F.Folder.state c.args.folder.now).content c.args.dir.now c.row.inside.path row.path c.in_err-name.field-0.0 (ap (λ (r : Row). r.path) same) c.in_err-name.ensures.unread)
+    rw (p.1, p.2) (
+      unread_of (g.F.Folder.state c.args.folder.now).content c.args.dir.now c.row.inside.path row.path c.in_err-name.field-0.0 (ap (λ (r : Row). r.path) same) c.in_err-name.ensures.unread,
+      λ content told walked. unread_told (g.F.Folder.state c.args.folder.now).content content c.args.dir.now c.args.rows.now trace mine c.in_err-name.field-0.0 told walked at c.in_err-name.ensures.unread,
+    )
 
 pub first_label-label-requires : goal.first_label-label-requires
 first_label-label-requires g c = λ above step is.
@@ -87,19 +82,15 @@ returns-in-Ok-clause-walks g c = λ trace row stands told_row.
     (λ due. c.unwrap_or-barriers.ensures ∙ ap (λ (o : Option ℕ). unwrap_or o c.in-Ok.checked.barriers) due))
 
 pub returns-clause-refused : goal.returns-clause-refused
-returns-clause-refused g c = λ trace row stands told_row content told walked.
+returns-clause-refused g c = λ trace row stands told_row.
     let mine : Row = record { path = c.row.inside.path; records = c.row.inside.records } in
     let read : slice_get c.args.rows.now c.args.stack.now.place ≡ Some (record { path = c.row.inside.path; records = c.row.inside.records }) = row_read c.args.rows.now c.args.stack.now.place c.index-rows-stack.result _ c.requires.within c.index-rows-stack.is c.row.view_is in
     let at = ap (λ (n : ℕ). slice_get c.args.rows.now n) (sym stands.place) ∙ read in
-    subst (λ (e : WalkFault). TellsFirstBad c.args.format content.held c.args.dir.now e) (sym c.fault_of.ensures)
-    (log_told content.held c.args.dir.now c.args.rows.now trace mine (log_task_of c.in_ok-task.task) (file_of content c.deref-2.result.now) c.args.stack.now.segments
-    c.in-Err.fault walked at (c.in_ok-task.ensures.task mine read c.args.format trace stands)
-    (c.in_ok-name.ensures.found content told ∙ ap (λ (n : List ℕ). Some (file_of content n)) (sym (c.deref-2.ensures ∙ c.in_ok-name.ensures.name))) stands.counted
-    (c.in-Err.ensures.refused content (ap (λ s. s.content) c.in_ok-name.ensures.same ∙ told)))
-
-pub returns-clause-of_row : goal.returns-clause-of_row
-returns-clause-of_row g c = λ row told_row.
-    let mine : Row = record { path = c.row.inside.path; records = c.row.inside.records } in
-    let read : slice_get c.args.rows.now c.args.stack.now.place ≡ Some (record { path = c.row.inside.path; records = c.row.inside.records }) = row_read c.args.rows.now c.args.stack.now.place c.index-rows-stack.result _ c.requires.within c.index-rows-stack.is c.row.view_is in
-    let same : mine ≡ row = same_Some mine row (sym read ∙ told_row) in
-    subst (λ (e : WalkFault). RefusesLogOf (λ (p : List Step). p ≡ row.path) e) (sym c.fault_of.ensures) (refused_of c.row.inside.path row.path c.in-Err.fault (ap (λ (r : Row). r.path) same))
+    let same : mine ≡ row = same_Some mine row (sym read ∙ told_row) in (
+      subst (λ (e : WalkFault). RefusesLogOf (λ (p : List Step). p ≡ row.path) e) (sym c.fault_of.ensures) (refused_of c.row.inside.path row.path c.in-Err.fault (ap (λ (r : Row). r.path) same)),
+      λ content told walked. subst (λ (e : WalkFault). TellsFirstBad c.args.format content.held c.args.dir.now e) (sym c.fault_of.ensures)
+          (log_told content.held c.args.dir.now c.args.rows.now trace mine (log_task_of c.in_ok-task.task) (file_of content c.deref-2.result.now) c.args.stack.now.segments
+          c.in-Err.fault walked at (c.in_ok-task.ensures.task mine read c.args.format trace stands)
+          (c.in_ok-name.ensures.found content told ∙ ap (λ (n : List ℕ). Some (file_of content n)) (sym (c.deref-2.ensures ∙ c.in_ok-name.ensures.name))) stands.counted
+          (c.in-Err.ensures.refused content (ap (λ s. s.content) c.in_ok-name.ensures.same ∙ told))),
+    )

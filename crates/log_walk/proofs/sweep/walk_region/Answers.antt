@@ -47,9 +47,10 @@ returns-in_err-walk_next-clause-refused g c = λ trace stands holds.
     let mine : Row = record { path = c.row.inside.path; records = c.row.inside.records } in
     let read : slice_get c.args.rows.now c.tasks.index ≡ Some (record { path = c.row.inside.path; records = c.row.inside.records }) = row_read c.args.rows.now c.tasks.index c.index-rows-index.result _ c.tasks-test.true c.index-rows-index.is c.row.view_is in
     let at : slice_get c.args.rows.now c.tasks.stack.place ≡ Some mine = ap (λ (n : ℕ). slice_get c.args.rows.now n) (so.stands.place ∙ sym so.at_row) ∙ read in
+    let refused = c.in_err-walk_next.ensures.refused (trace ++ so.more) mine so.stands at in
     rw (p.1, p.2) (
-      refuses_one (IsUnderRegion c.args.region) c.row.inside.path c.in_err-walk_next.field-0.0 (c.is_under.ensures.0 (search (rules, c.if-not-is_under.false))) (c.in_err-walk_next.ensures.of_row mine at),
-      λ content told. c.in_err-walk_next.ensures.refused (trace ++ so.more) mine so.stands at content (ap (λ s. s.content) c.tasks.invariant.same ∙ told) (so.holds holds content told),
+      refuses_one (IsUnderRegion c.args.region) c.row.inside.path c.in_err-walk_next.field-0.0 (c.is_under.ensures.0 (search (rules, c.if-not-is_under.false))) refused.0,
+      λ content told. refused.1 content (ap (λ s. s.content) c.tasks.invariant.same ∙ told) (so.holds holds content told),
     )
 
 pub tasks-preserved : goal.tasks-preserved

@@ -5,7 +5,6 @@ use Rattle.log_walk.proofs.together.go_all.Goals as goal
 
 pub returns : goal.returns
 returns g c = record {
-  count = c.for_each_mut.auto.s;
   goes = λ told dir rows all k d within.
       (let inside : k < length c.args.slots.now = omega (arith, within, c.for_each_mut.auto.s) in
       let changed = (c.for_each_mut.ensures k d inside).1 in

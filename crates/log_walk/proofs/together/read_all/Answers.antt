@@ -1,48 +1,52 @@
 use Rattle.std.proofs.Common.{◌∙◌, All, sym, subst, arith}
 use Rattle.sw_base.specs.Environment.{FolderState}
-use Rattle.log_walk.specs.Ahead.{IsAhead, IsSlot, IsSource}
+use Rattle.log_walk.specs.Ahead.{IsBatch, IsSlot}
 use Rattle.log_walk.proofs.together.read_all.Goals as goal
 
-pub returns-then-are_idle-clause-ahead : goal.returns-then-are_idle-clause-ahead
-returns-then-are_idle-clause-ahead g c = λ dir rows slots sources.
-    let inv = c.rounds.invariant in
-    let so = inv.so dir rows slots sources in
-    subst (λ (s : FolderState). All (IsAhead c.args.format s.content dir rows) c.fill_all.new.ahead.items) inv.same
-    (c.in_ok-fill_all.ensures.kept dir rows (subst (λ (s : FolderState). All (IsSlot c.args.format s.content dir rows) c.rounds.slots) (sym inv.same) so.0)
-    (subst (λ (s : FolderState). All (IsSource s.content dir rows) c.rounds.sources.items) (sym inv.same) so.1)
-    (subst (λ (s : FolderState). All (IsAhead c.args.format s.content dir rows) c.rounds.ahead.items) (sym inv.same) so.2))
+pub rounds-init : goal.rounds-init
+rounds-init g c = record {
+  so = λ dir rows some others batch. (let filled = c.in_ok-fill_all.ensures.fills dir rows some batch in (filled.0, others, filled.1));
+  same = c.fill_all.ensures.same;
+  later = c.fill_all.ensures.cause.later;
+}
 
-pub go_all-requires-clause-so : goal.go_all-requires-clause-so
-go_all-requires-clause-so g c κs within =
+pub go_and_fill-requires-clause-so : goal.go_and_fill-requires-clause-so
+go_and_fill-requires-clause-so g c κs within =
+    let r = c.requires.so in
+    ((g.F.Folder.state c.args.folder.now).content, r.0, r.1, (c.rounds.invariant.so r.0 r.1 r.2 r.3 r.4).0)
+
+pub go_and_fill-requires-in-rounds-clause-so : goal.go_and_fill-requires-in-rounds-clause-so
+go_and_fill-requires-in-rounds-clause-so g c κs within =
     let inv = c.rounds.invariant in
-    let dir = c.requires.so.0 in
-    let rows = c.requires.so.1 in
-    let so = inv.so dir rows c.requires.so.2 c.requires.so.3 in (
-      (g.F.Folder.state c.args.folder.now).content,
-      dir,
-      rows,
-      subst (λ (s : FolderState). All (IsSlot c.args.format s.content dir rows) c.fill_all.new.slots) inv.same
-          (c.in_ok-fill_all.ensures.fills dir rows (subst (λ (s : FolderState). All (IsSlot c.args.format s.content dir rows) c.rounds.slots) (sym inv.same) so.0)
-          (subst (λ (s : FolderState). All (IsSource s.content dir rows) c.rounds.sources.items) (sym inv.same) so.1)),
-    )
+    let r = c.requires.so in
+    let so = inv.so r.0 r.1 r.2 r.3 r.4 in
+    let others = subst (λ (s : FolderState). All (IsSlot c.args.format s.content r.0 r.1) c.rounds.others) (sym inv.same) so.1 in
+    let batch = subst (λ (s : FolderState). IsBatch c.args.format s.content r.0 r.1 c.rounds.batch) (sym inv.same) so.2 in
+    ((g.F.Folder.state c.rounds.folder).content, r.0, r.1, (c.in_ok-go_and_fill.ensures.fills r.0 r.1 others batch).0)
 
 pub rounds-preserved : goal.rounds-preserved
 rounds-preserved g c =
     let inv = c.rounds.invariant in
+    let told = (g.F.Folder.state c.args.folder.now).content in
     record {
-      so = λ dir rows slots sources.
-          (let so = inv.so dir rows slots sources in
-          let filled = subst (λ (s : FolderState). All (IsSlot c.args.format s.content dir rows) c.rounds.slots) (sym inv.same) so.0 in
-          let left = subst (λ (s : FolderState). All (IsSource s.content dir rows) c.rounds.sources.items) (sym inv.same) so.1 in (
-            c.go_all.ensures.goes (g.F.Folder.state c.args.folder.now).content dir rows
-                (subst (λ (s : FolderState). All (IsSlot c.args.format s.content dir rows) c.fill_all.new.slots) inv.same (c.in_ok-fill_all.ensures.fills dir rows filled left)),
-            subst (λ (s : FolderState). All (IsSource s.content dir rows) c.fill_all.new.sources.items) inv.same (c.in_ok-fill_all.ensures.left dir rows left),
-            subst (λ (s : FolderState). All (IsAhead c.args.format s.content dir rows) c.fill_all.new.ahead.items) inv.same
-                (c.in_ok-fill_all.ensures.kept dir rows filled left (subst (λ (s : FolderState). All (IsAhead c.args.format s.content dir rows) c.rounds.ahead.items) (sym inv.same) so.2)),
+      so = λ dir rows some others batch.
+          (let so = inv.so dir rows some others batch in
+          let first = c.in_ok-go_and_fill.ensures.fills dir rows (subst (λ (s : FolderState). All (IsSlot c.args.format s.content dir rows) c.rounds.others) (sym inv.same) so.1)
+          (subst (λ (s : FolderState). IsBatch c.args.format s.content dir rows c.rounds.batch) (sym inv.same) so.2) in
+          let same = c.go_and_fill.ensures.same ∙ inv.same in
+          let gone = c.go_and_fill.ensures.goes told dir rows so.0 in
+          let second = c.in_ok-go_and_fill-2.ensures.fills dir rows (subst (λ (s : FolderState). All (IsSlot c.args.format s.content dir rows) c.go_and_fill.new.going) (sym same) gone)
+          (subst (λ (s : FolderState). IsBatch c.args.format s.content dir rows c.go_and_fill.new.batch) (sym c.go_and_fill.ensures.same) first.1) in (
+            subst (λ (s : FolderState). All (IsSlot c.args.format s.content dir rows) c.go_and_fill-in-rounds.new.filling) same second.0,
+            c.go_and_fill-in-rounds.ensures.goes told dir rows (subst (λ (s : FolderState). All (IsSlot c.args.format s.content dir rows) c.go_and_fill.new.filling) inv.same first.0),
+            subst (λ (s : FolderState). IsBatch c.args.format s.content dir rows c.go_and_fill-in-rounds.new.batch) same second.1,
           ));
-      same = c.fill_all.ensures.same ∙ inv.same;
-      later = omega (arith, c.fill_all.ensures.cause.later, inv.later);
+      same = c.go_and_fill-in-rounds.ensures.same ∙ (c.go_and_fill.ensures.same ∙ inv.same);
+      later = omega (arith, c.go_and_fill-in-rounds.ensures.cause.later, c.go_and_fill.ensures.cause.later, inv.later);
     }
 
 pub returns-clause-ahead : goal.returns-clause-ahead
-returns-clause-ahead g c = λ dir rows slots sources. (c.rounds.invariant.so dir rows slots sources).2
+returns-clause-ahead g c = λ dir rows some others batch. (c.rounds.invariant.so dir rows some others batch).2.ahead
+
+pub returns-then-are_idle-2-clause-ahead : goal.returns-then-are_idle-2-clause-ahead
+returns-then-are_idle-2-clause-ahead g c = λ dir rows some others batch. (c.rounds.invariant.so dir rows some others batch).2.ahead

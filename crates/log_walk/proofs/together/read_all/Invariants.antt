@@ -1,12 +1,13 @@
 use Rattle.std.proofs.Common.{All, ℕ, List, ◌≡◌, ◌≤◌}
 use Rattle.race_model.specs.Row.{Row}
-use Rattle.log_walk.specs.Ahead.{IsAhead, IsSlot, IsSource}
+use Rattle.log_walk.specs.Ahead.{IsBatch, IsSlot}
 use Rattle.log_walk.proofs.together.read_all.Given as goal
 
 abbrev pub invariant-rounds : goal.invariant-rounds
 invariant-rounds g l = record {
-  so : (dir : List ℕ) (rows : List Row) → All (IsSlot l.format (g.F.Folder.state l.fn.folder).content dir rows) l.fn.slots → All (IsSource (g.F.Folder.state l.fn.folder).content dir rows) l.fn.sources.items
-      → All (IsSlot l.format (g.F.Folder.state l.fn.folder).content dir rows) l.slots × All (IsSource (g.F.Folder.state l.fn.folder).content dir rows) l.sources.items × All (IsAhead l.format (g.F.Folder.state l.fn.folder).content dir rows) l.ahead.items;
+  so : (dir : List ℕ) (rows : List Row) → All (IsSlot l.format (g.F.Folder.state l.fn.folder).content dir rows) l.fn.some → All (IsSlot l.format (g.F.Folder.state l.fn.folder).content dir rows) l.fn.others
+      → IsBatch l.format (g.F.Folder.state l.fn.folder).content dir rows l.fn.batch
+      → All (IsSlot l.format (g.F.Folder.state l.fn.folder).content dir rows) l.some × All (IsSlot l.format (g.F.Folder.state l.fn.folder).content dir rows) l.others × IsBatch l.format (g.F.Folder.state l.fn.folder).content dir rows l.batch;
   same : g.F.Folder.state l.folder ≡ g.F.Folder.state l.fn.folder;
   later : g.F.Folder.read_faults l.fn.folder ≤ g.F.Folder.read_faults l.folder;
 }

@@ -14,7 +14,7 @@ returns-in_err-region-clause-refused g c =
     let so = c.regions.invariant.so in
     let swept : HasSwept c.args.format (g.F.Folder.state c.regions.folder).content c.args.dir.now c.regions.sweep so.trace =
     subst (λ (s : FolderState). HasSwept c.args.format s.content c.args.dir.now c.regions.sweep so.trace) (sym c.regions.invariant.same) so.swept in
-    let r = c.in_err-region.ensures.refused c.args.format c.args.dir.now so.trace swept in
+    let r = c.in_err-region.ensures.next.refused c.args.format c.args.dir.now so.trace swept in
     rw (p.1, p.2) (λ content told. r.2 content (ap (λ s. s.content) c.regions.invariant.same ∙ told))
 
 pub returns-in_default-clause-segments : goal.returns-in_default-clause-segments
@@ -23,7 +23,7 @@ returns-in_default-clause-segments g c =
     let swept : HasSwept c.args.format (g.F.Folder.state c.regions.folder).content c.args.dir.now c.regions.sweep so.trace =
     subst (λ (s : FolderState). HasSwept c.args.format s.content c.args.dir.now c.regions.sweep so.trace) (sym c.regions.invariant.same) so.swept in
     let none : c.in_ok-region.field-0 ≡ None = search rules in
-    let all = c.in_ok-region.ensures.all c.args.format c.args.dir.now so.trace swept none in
+    let all = c.in_ok-region.ensures.next.all c.args.format c.args.dir.now so.trace swept none in
     of_folder (g.F.Folder.state c.args.folder.now).content c.args.dir.now c.regions.sweep c.regions.found.items so
     (subst (λ (s : FolderState). HasSweptAll c.args.format s.content c.args.dir.now c.regions.sweep so.trace) c.regions.invariant.same all.1)
 
@@ -33,7 +33,7 @@ returns-in_default-clause-well_formed g c = λ x told.
     let swept : HasSwept c.args.format (g.F.Folder.state c.regions.folder).content c.args.dir.now c.regions.sweep so.trace =
     subst (λ (s : FolderState). HasSwept c.args.format s.content c.args.dir.now c.regions.sweep so.trace) (sym c.regions.invariant.same) so.swept in
     let none : c.in_ok-region.field-0 ≡ None = search rules in
-    let all = c.in_ok-region.ensures.all c.args.format c.args.dir.now so.trace swept none in
+    let all = c.in_ok-region.ensures.next.all c.args.format c.args.dir.now so.trace swept none in
     let whole = all.1 in
     whole.well_formed x (ap (λ s. s.content) c.regions.invariant.same ∙ told)
 
@@ -44,9 +44,9 @@ regions-preserved g c =
     subst (λ (s : FolderState). HasSwept c.args.format s.content c.args.dir.now c.regions.sweep so.trace) (sym c.regions.invariant.same) so.swept in
     let gives : GivesRegion c.args.format (g.F.Folder.state c.regions.folder).content c.args.dir.now c.regions.sweep c.next.new.self so.trace c.in-Some.region.items =
     subst (λ (o : Option (Vec Segment Global)). IfSome o (λ segments. GivesRegion c.args.format (g.F.Folder.state c.regions.folder).content c.args.dir.now c.regions.sweep c.next.new.self so.trace segments.items)) c.in-Some.is
-    (c.in_ok-region.ensures.region c.args.format c.args.dir.now so.trace swept) in
+    (c.in_ok-region.ensures.next.region c.args.format c.args.dir.now so.trace swept) in
     let less : logs_left c.next.new.self < logs_left c.regions.sweep =
-    subst (λ (o : Option (Vec Segment Global)). IfSome o (λ segments. logs_left c.next.new.self < logs_left c.regions.sweep)) c.in-Some.is c.in_ok-region.ensures.shrinks in
+    subst (λ (o : Option (Vec Segment Global)). IfSome o (λ segments. logs_left c.next.new.self < logs_left c.regions.sweep)) c.in-Some.is c.in_ok-region.ensures.next.shrinks in
     record {
       so = subst (λ (xs : List Segment). WalkedTo c.args.format (g.F.Folder.state c.args.folder.now).content c.args.dir.now c.next.new.self xs) (sym c.in_ok-append.ensures.items)
           (walked_more (g.F.Folder.state c.args.folder.now).content c.args.dir.now c.regions.sweep c.next.new.self c.regions.found.items c.in-Some.region.items so

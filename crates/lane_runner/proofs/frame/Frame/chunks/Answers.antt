@@ -1,20 +1,16 @@
-use Rattle.std.proofs.Common.{◌≡◌, ap, sym, subst, List, pos, ◌+ℤ◌, ◌≤ℤ◌, ℕ, ◌+◌, ◌-◌, ◌*◌, ◌^◌, ◌<◌, min, ℤ, Err, w64, to_z, of_z, rules, arith, refl, ◌∙◌}
+use Rattle.std.proofs.Common.{◌≡◌, sym, subst, pos, ◌+ℤ◌, ◌≤ℤ◌, ℕ, ◌+◌, ◌-◌, ◌*◌, ◌^◌, ◌<◌, min, ℤ, Err, w64, to_z, of_z, rules, arith, refl, ◌∙◌}
 use Rattle.std.proofs.lemmas.Result.{err_from_is_err_and}
 use Rattle.std.proofs.lemmas.Int.{to_z-of_z}
 use Rattle.kernel_syntax.specs.Program.{code_of}
 use Rattle.kernel_model.specs.Iterations.{static_iterations}
 use Rattle.kernel_model.specs.Trace.{each, turns}
 use Rattle.kernel_model.specs.Effect.{Returned}
-use Rattle.shared_words.specs.declared.view.View.{View}
-use Rattle.shared_words.specs.Handles.{HandValue}
 use Rattle.kernel_model.specs.Drawing.{turn_from}
-use Rattle.lane_runner.specs.Alone.{IsAlone}
-use Rattle.lane_runner.proofs.Values.{can_follow}
 use Rattle.lane_runner.specs.Going.{Made, Goes, site}
 use Rattle.lane_runner.proofs.Bodies.{log_still, log_later}
 use Rattle.kernel_model.proofs.Turns.{below_top}
 use Rattle.lane_runner.proofs.Dealing.{MadeChunks, chunks_none, chunks_all, chunks_grow, chunks_stop}
-use Rattle.lane_runner.proofs.Teams.{teams_later}
+use Rattle.lane_runner.proofs.Ongoing.{executes_later}
 use Rattle.lane_runner.proofs.frame.Frame.chunks.Goals as goal
 
 within_is : (lane span given : ℕ) → given ≡ span → lane < given → lane < span
@@ -28,22 +24,14 @@ chunks-init g c =
     record {
       made =
           subst (λ (n : ℕ). MadeChunks c.args.world.now (site c.args.world.now) (code_of c.args.body.now.stmts.items) c.args.slot (to_z w64 (of_z w64 c.args.from)) c.args.chunk c.args.total n c.args.self.now.locals.slots.items c.args.self.now.locals.slots.items c.args.self.now.track c.args.self.now.track) begins
-          (chunks_none c.args.world.now (site c.args.world.now) (code_of c.args.body.now.stmts.items) c.args.slot (to_z w64 (of_z w64 c.args.from)) c.args.chunk c.args.total c.requires.some within c.args.self.now.locals.slots.items c.args.self.now.track c.requires.can small);
+          (chunks_none c.args.world.now (site c.args.world.now) (code_of c.args.body.now.stmts.items) c.args.slot (to_z w64 (of_z w64 c.args.from)) c.args.chunk c.args.total c.requires.some within c.args.self.now.locals.slots.items c.args.self.now.track c.requires.executes.can small);
       log = log_still c.args.self.now.track.buffer;
       loops = refl;
       stride = search rules;
     }
 
-pub repeat-requires-clause-can : goal.repeat-requires-clause-can
-repeat-requires-clause-can g c κs given =
-    can_follow c.args.world.now (each c.chunks.invariant.made.done (turn_from (site c.args.world.now) (code_of c.args.body.now.stmts.items) c.args.slot (to_z w64 (of_z w64 c.args.from)))) c.args.self.now.locals.slots.items c.chunks.self.locals.slots.items c.args.self.now.track c.chunks.self.track (Returned tt) c.requires.can c.chunks.invariant.made.made
-
-pub repeat-requires-clause-alone : goal.repeat-requires-clause-alone
-repeat-requires-clause-alone g c κs given =
-    subst (λ (h : List ℕ). IsAlone c.args.world.now.words.locks h (code_of c.args.body.now.stmts.items)) (sym (ap (λ (h : HandValue View). h.view.held) c.chunks.invariant.made.made.done.hand)) c.requires.alone
-
-pub repeat-requires-clause-runs : goal.repeat-requires-clause-runs
-repeat-requires-clause-runs g c κs given = teams_later _ _ _ _ _ _ c.chunks.invariant.log (code_of c.args.body.now.stmts.items) c.requires.runs
+pub repeat-requires-clause-executes : goal.repeat-requires-clause-executes
+repeat-requires-clause-executes g c κs given = executes_later c.chunks.invariant.made.made c.chunks.invariant.log c.requires.executes
 
 pub repeat-requires-clause-top : goal.repeat-requires-clause-top
 repeat-requires-clause-top g c κs given =

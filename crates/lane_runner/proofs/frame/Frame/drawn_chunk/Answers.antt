@@ -1,19 +1,16 @@
-use Rattle.std.proofs.Common.{◌≡◌, ap, sym, ◌∙◌, subst, ℕ, suc, ◌+◌, ◌-◌, ◌*◌, ◌^◌, ◌<◌, ◌≤◌, min, true, List, ℤ, pos, ◌+ℤ◌, ◌≤ℤ◌, Err, nat_lt, w64, rules, arith}
+use Rattle.std.proofs.Common.{◌≡◌, sym, ◌∙◌, subst, ℕ, suc, ◌+◌, ◌-◌, ◌*◌, ◌^◌, ◌<◌, ◌≤◌, min, true, ℤ, pos, ◌+ℤ◌, ◌≤ℤ◌, Err, nat_lt, w64, rules, arith}
 use Rattle.std.proofs.lemmas.Result.{err_from_is_err_and}
 use Rattle.std.proofs.lemmas.Int.{to_z-of_z}
 use Rattle.kernel_syntax.specs.Program.{code_of}
 use Rattle.kernel_model.specs.Iterations.{chunk_count}
 use Rattle.kernel_model.specs.Trace.{draw, turns}
 use Rattle.kernel_model.specs.Effect.{Returned}
-use Rattle.shared_words.specs.declared.view.View.{View}
-use Rattle.shared_words.specs.Handles.{HandValue}
 use Rattle.kernel_model.specs.Drawing.{turn_from}
-use Rattle.lane_runner.specs.Alone.{IsAlone}
 use Rattle.lane_runner.specs.Going.{Goes, Made, site}
 use Rattle.lane_runner.proofs.Values.{can_follow}
 use Rattle.kernel_model.proofs.Turns.{below_top, chunk_begins}
 use Rattle.lane_runner.proofs.Chunking.{draw_stops, none_left, chunk_stops, chunk_ends}
-use Rattle.lane_runner.proofs.Teams.{teams_later}
+use Rattle.lane_runner.proofs.Ongoing.{executes_later}
 use Rattle.lane_runner.proofs.frame.Frame.drawn_chunk.Goals as goal
 
 below : (q n given : ℕ) → given ≡ n → q ≤ given → (q ≡ given → ⊥) → q < n
@@ -34,7 +31,7 @@ returns-then-number-chunks-clause-goes g c =
     let count : c.div_ceil-chunks.result ≡ chunk_count c.args.chunk c.args.total = search rules in
     none_left c.args.world.now (site c.args.world.now) (code_of c.args.body.now.stmts.items) c.args.slot c.args.from c.args.line c.args.total c.args.chunk c.args.self.now.locals.slots.items c.in_ok-number.number c.args.self.now.track c.draw.new.self
     (subst (λ (n : ℕ). Made c.args.world.now (draw c.args.line n) c.args.self.now.locals.slots.items c.args.self.now.locals.slots.items c.args.self.now.track c.draw.new.self (Returned c.in_ok-number.number)) count (c.in_ok-number.ensures.goes c.args.self.now.locals.slots.items))
-    (can_follow _ _ _ _ _ _ _ c.requires.can (c.in_ok-number.ensures.goes c.args.self.now.locals.slots.items)) (c.if-number-chunks.true ∙ count)
+    (can_follow _ _ _ _ _ _ _ c.requires.executes.can (c.in_ok-number.ensures.goes c.args.self.now.locals.slots.items)) (c.if-number-chunks.true ∙ count)
 
 pub overflow_sub-total : goal.overflow_sub-total
 overflow_sub-total g c =
@@ -49,16 +46,8 @@ overflow_mul-first g c =
     let small : c.args.total < 2 ^ 64 = search rules in
     omega (arith, begins, small)
 
-pub repeat-requires-clause-can : goal.repeat-requires-clause-can
-repeat-requires-clause-can g c κs given = can_follow _ _ _ _ _ _ _ c.requires.can (c.in_ok-number.ensures.goes c.args.self.now.locals.slots.items)
-
-pub repeat-requires-clause-alone : goal.repeat-requires-clause-alone
-repeat-requires-clause-alone g c κs given =
-    let made : Made c.args.world.now (draw c.args.line c.div_ceil-chunks.result) c.args.self.now.locals.slots.items c.args.self.now.locals.slots.items c.args.self.now.track c.draw.new.self (Returned c.in_ok-number.number) = c.in_ok-number.ensures.goes c.args.self.now.locals.slots.items in
-    subst (λ (h : List ℕ). IsAlone c.args.world.now.words.locks h (code_of c.args.body.now.stmts.items)) (sym (ap (λ (h : HandValue View). h.view.held) made.done.hand)) c.requires.alone
-
-pub repeat-requires-clause-runs : goal.repeat-requires-clause-runs
-repeat-requires-clause-runs g c κs given = teams_later _ _ _ _ _ _ c.in_ok-number.ensures.log (code_of c.args.body.now.stmts.items) c.requires.runs
+pub repeat-requires-clause-executes : goal.repeat-requires-clause-executes
+repeat-requires-clause-executes g c κs given = executes_later (c.in_ok-number.ensures.goes c.args.self.now.locals.slots.items) c.in_ok-number.ensures.log c.requires.executes
 
 pub repeat-requires-clause-top : goal.repeat-requires-clause-top
 repeat-requires-clause-top g c κs given =
@@ -86,7 +75,7 @@ returns-clause-goes g c =
     let least : c.min.result ≡ min c.args.chunk (c.args.total - c.in_ok-number.number * c.args.chunk) = search rules in
     let less = below c.in_ok-number.number (chunk_count c.args.chunk c.args.total) c.div_ceil-chunks.result count c.in_ok-number.ensures.within c.if-number-chunks.false in
     let made = subst (λ (n : ℕ). Made c.args.world.now (draw c.args.line n) c.args.self.now.locals.slots.items c.args.self.now.locals.slots.items c.args.self.now.track c.draw.new.self (Returned c.in_ok-number.number)) count (c.in_ok-number.ensures.goes c.args.self.now.locals.slots.items) in
-    let can = can_follow _ _ _ _ _ _ _ (can_follow _ _ _ _ _ _ _ c.requires.can (c.in_ok-number.ensures.goes c.args.self.now.locals.slots.items)) c.in_ok-repeat.ensures.goes in
+    let can = can_follow _ _ _ _ _ _ _ (can_follow _ _ _ _ _ _ _ c.requires.executes.can (c.in_ok-number.ensures.goes c.args.self.now.locals.slots.items)) c.in_ok-repeat.ensures.goes in
     chunk_ends c.args.world.now (site c.args.world.now) (code_of c.args.body.now.stmts.items) c.args.slot c.args.from c.args.line c.args.total c.args.chunk c.args.self.now.locals.slots.items c.in_ok-number.number c.args.self.now.track c.draw.new.self made (is_below c.in_ok-number.number (chunk_count c.args.chunk c.args.total) less) c.repeat.new.self.locals.slots.items c.repeat.new.self.track can
     (subst (λ (n : ℕ). Made c.args.world.now (turns n (c.in_ok-number.number * c.args.chunk) (turn_from (site c.args.world.now) (code_of c.args.body.now.stmts.items) c.args.slot c.args.from)) c.args.self.now.locals.slots.items c.repeat.new.self.locals.slots.items c.draw.new.self c.repeat.new.self.track (Returned tt)) least
     (subst (λ (z : ℤ). Made c.args.world.now (turns c.min.result (c.in_ok-number.number * c.args.chunk) (turn_from (site c.args.world.now) (code_of c.args.body.now.stmts.items) c.args.slot z)) c.args.self.now.locals.slots.items c.repeat.new.self.locals.slots.items c.draw.new.self c.repeat.new.self.track (Returned tt)) (to_z-of_z w64 c.args.from c.ranges.from) c.in_ok-repeat.ensures.goes))

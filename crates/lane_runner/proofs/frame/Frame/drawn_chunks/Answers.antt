@@ -1,4 +1,4 @@
-use Rattle.std.proofs.Common.{ap, ◌∙◌, subst, Bool, ℤ, Err, w64, to_z, of_z}
+use Rattle.std.proofs.Common.{ap, sym, ◌∙◌, subst, ℕ, List, Bool, ℤ, Err, w64, to_z, of_z}
 use Rattle.std.proofs.lemmas.Result.{err_from_is_err_and}
 use Rattle.std.proofs.lemmas.Int.{to_z-of_z}
 use Rattle.kernel_syntax.specs.Program.{code_of}
@@ -8,6 +8,7 @@ use Rattle.kernel_model.specs.Trace.{each}
 use Rattle.shared_words.specs.declared.view.View.{View}
 use Rattle.shared_words.specs.Handles.{HandValue}
 use Rattle.kernel_model.specs.Drawing.{turn_from, draw_all, draw_once}
+use Rattle.lane_runner.specs.Alone.{IsAlone}
 use Rattle.lane_runner.specs.Drawing.{open_past}
 use Rattle.lane_runner.specs.Going.{Goes, Made, site}
 use Rattle.lane_runner.proofs.Bodies.{log_later}
@@ -54,5 +55,10 @@ draws-preserved g c =
           (subst (λ (b : Bool). Made c.args.world.now (draw_once c.args.line (chunk_count c.args.chunk c.args.total) (λ q. each (chunk_iterations c.args.chunk c.args.total q) (turn_from (site c.args.world.now) (code_of c.args.body.now.stmts.items) c.args.slot from))) c.draws.self.locals.slots.items c.drawn_chunk.new.self.locals.slots.items c.draws.self.track c.drawn_chunk.new.self.track (Returned b)) c.if-not-branch.false made);
     }
 
-pub drawn_chunk-requires-clause-runs : goal.drawn_chunk-requires-clause-runs
-drawn_chunk-requires-clause-runs g c κs given = teams_later _ _ _ _ _ _ c.draws.invariant.log (code_of c.args.body.now.stmts.items) c.requires.runs
+pub drawn_chunk-requires-clause-executes : goal.drawn_chunk-requires-clause-executes
+drawn_chunk-requires-clause-executes g c κs given = record {
+  can = c.draws.invariant.can;
+  bounded = c.requires.executes.bounded;
+  alone = subst (λ (held : List ℕ). IsAlone c.args.world.now.words.locks held (code_of c.args.body.now.stmts.items)) (sym c.draws.invariant.held) c.requires.executes.alone;
+  runs = teams_later _ _ _ _ _ _ c.draws.invariant.log (code_of c.args.body.now.stmts.items) c.requires.executes.runs;
+}

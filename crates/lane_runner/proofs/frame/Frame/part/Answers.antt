@@ -55,10 +55,13 @@ shared_loop-requires-clause-counters g c κs within =
       number = c.requires.number;
     }
 
-pub statement-requires-clause-alone : goal.statement-requires-clause-alone
-statement-requires-clause-alone g c κs within =
-    subst (λ (h : List ℕ). IsAlone c.args.world.now.words.locks h (stmt_code c.args.stmt.now Done)) (sym c.requires.free)
-    (alone_in_team c.args.world.now.words.locks c.args.stmt.now c.requires.own c.in_default.not-For)
+pub statement-requires-clause-executes : goal.statement-requires-clause-executes
+statement-requires-clause-executes g c κs within = record {
+  can = c.requires.can;
+  bounded = c.requires.bounded;
+  alone = subst (λ (h : List ℕ). IsAlone c.args.world.now.words.locks h (stmt_code c.args.stmt.now Done)) (sym c.requires.free) (alone_in_team c.args.world.now.words.locks c.args.stmt.now c.requires.own c.in_default.not-For);
+  runs = c.requires.runs;
+}
 
 pub returns-in-For-clause-goes : goal.returns-in-For-clause-goes
 returns-in-For-clause-goes g c =

@@ -8,8 +8,7 @@ use Rattle.kernel_model.specs.Drawing.{turn_from}
 use Rattle.lane_runner.specs.Going.{Goes, site}
 use Rattle.lane_runner.proofs.Dealing.{for_first_stops, for_last_stops, for_goes}
 use Rattle.lane_runner.proofs.Values.{can_follow}
-use Rattle.lane_runner.proofs.Bodies.{log_later}
-use Rattle.lane_runner.proofs.Teams.{teams_later}
+use Rattle.lane_runner.proofs.Ongoing.{executes_later}
 use Rattle.lane_runner.proofs.frame.Frame.shared_loop.Goals as goal
 
 pub returns-in_err-first-clause-goes : goal.returns-in_err-first-clause-goes
@@ -36,8 +35,7 @@ returns-clause-goes g c =
 pub value-requires-2-clause-can : goal.value-requires-2-clause-can
 value-requires-2-clause-can g c κs given = can_follow _ _ _ _ _ _ _ c.requires.can c.in_ok-first.ensures.goes
 
-pub share-requires-clause-can : goal.share-requires-clause-can
-share-requires-clause-can g c κs given = can_follow _ _ _ _ _ _ _ (can_follow _ _ _ _ _ _ _ c.requires.can c.in_ok-first.ensures.goes) c.in_ok-last.ensures.goes
-
-pub share-requires-clause-runs : goal.share-requires-clause-runs
-share-requires-clause-runs g c κs given = teams_later _ _ _ _ _ _ (log_later _ _ _ c.in_ok-first.ensures.log c.in_ok-last.ensures.log) (code_of c.args.body.now.stmts.items) c.requires.runs
+pub share-requires-clause-executes : goal.share-requires-clause-executes
+share-requires-clause-executes g c κs given =
+    executes_later c.in_ok-last.ensures.goes c.in_ok-last.ensures.log
+    (executes_later c.in_ok-first.ensures.goes c.in_ok-first.ensures.log (record { can = c.requires.can; bounded = c.requires.bounded.5; alone = c.requires.alone; runs = c.requires.runs }))

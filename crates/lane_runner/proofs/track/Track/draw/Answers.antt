@@ -27,7 +27,7 @@ pub loop_after-self-inside-requires : goal.loop_after-self-inside-requires
 loop_after-self-inside-requires g c =
     let room = subst (λ (p : Progress). HasRoomFor c.args.self.now p) (sym c.self.view_is) c.in_ok-ready.ensures.room in
     let same : c.self.inside.next_loop ≡ c.args.self.now.tally.next_loop = ap (λ (t : Tally). t.next_loop) room.waits.tally in
-    let small = c.requires.number in
+    let small = c.requires.counter.number in
     omega (arith, same, small)
 
 pub returns-clause-goes : goal.returns-clause-goes

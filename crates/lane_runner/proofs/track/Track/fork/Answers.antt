@@ -50,6 +50,6 @@ returns-clause-takes g c =
     let room = subst (λ (p : Progress). HasRoomFor c.args.self.now p) (sym c.self.view_is) c.in_ok-ready.ensures.room in
     let waits = still_waits c.args.self.now (record { hand = c.self.inside.hand; buffer = c.self.inside.buffer; tally = record { draws = c.self.inside.draws; next_loop = c.self.inside.next_loop; forked = c.self.inside.forked }; done = entries_of (record { dir = g.L.Log.dir; path = g.L.Log.path; text = g.L.Log.text; faults = g.L.Log.faults }) c.self.inside.done.items }) c.children.new.buffer room c.children.ensures.still c.children.ensures.records in
     took (event kind.Region c.args.line 0 c.args.span) c.args.self.now.hand.view c.args.self.now _ waits (subst (λ (n : ℕ). n < log_limit) (sym c.children.ensures.still.count) room.may_put.below) c.in-Ok.ensures.unrefused
-    (room.waits.hand ∙ hand_still c.args.self.now.hand c.requires.there)
+    (room.waits.hand ∙ hand_still c.args.self.now.hand c.requires.puts.there)
     c.put.ensures.put
     (λ header records holds. subst (λ (r : Record). HoldsRecords header c.put.new.self (records ++ r ∷ [])) (c.event-event.ensures ∙ ap (λ (n : ℕ). event kind.Region c.args.line 0 n) c.from.ensures) (c.put.ensures.records header records holds))

@@ -11,6 +11,6 @@ pub returns-clause-takes : goal.returns-clause-takes
 returns-clause-takes g c =
     let room = subst (λ (p : Progress). HasRoomFor c.args.self.now p) (sym c.self.view_is) c.in_ok-ready.ensures.room in
     took (event c.args.kind c.args.line 0 0) c.args.self.now.hand.view c.args.self.now _ room.waits room.may_put.below room.may_put.unrefused
-    (room.waits.hand ∙ hand_still c.args.self.now.hand c.requires.there)
+    (room.waits.hand ∙ hand_still c.args.self.now.hand c.requires.puts.there)
     c.put.ensures.put
     (λ header records holds. subst (λ (r : Record). HoldsRecords header c.put.new.self (records ++ r ∷ [])) c.event-event.ensures (c.put.ensures.records header records holds))

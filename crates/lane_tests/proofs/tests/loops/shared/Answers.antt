@@ -9,7 +9,7 @@ use Rattle.lane_tests.proofs.tests.loops.shared.Goals as goal
 pub returns-clause-bounded : goal.returns-clause-bounded
 returns-clause-bounded c =
     subst IsBoundedCode (sym (stmt_code-For 0 (expr.Number (pos 0)) (expr.Number (to_z w64 (of_z w64 c.args.to))) c.args.schedule true 6 9 c.args.body Done))
-    (tt, tt, c.requires.schedule, record { some = omega arith; fits = omega arith }, record { some = omega arith; fits = omega arith }, c.requires.bounded, tt)
+    (tt, tt, c.requires.schedule, record { some = omega arith; fits = omega arith }, record { some = omega arith; fits = omega arith }, c.requires.lone.bounded, tt)
 
 pub returns-clause-own : goal.returns-clause-own
-returns-clause-own c = subst (IsOfTeam 1) (sym (stmt_code-For 0 (expr.Number (pos 0)) (expr.Number (to_z w64 (of_z w64 c.args.to))) c.args.schedule true 6 9 c.args.body Done)) c.requires.alone
+returns-clause-own c = subst (IsOfTeam 1) (sym (stmt_code-For 0 (expr.Number (pos 0)) (expr.Number (to_z w64 (of_z w64 c.args.to))) c.args.schedule true 6 9 c.args.body Done)) c.requires.lone.alone

@@ -12,11 +12,7 @@ use Rattle.lane_tests.proofs.tests.phases.a_full_log_takes_no_barrier_and_no_end
 stops_full : (w : WorldValue) (part : State → Outcome (Unit {0})) (old new : Progress) (why : Halt) (line : ℕ) → why ≡ halt.LogFull line → GoesPast 1 w part [] [] old new (Err why) → Made w part [] [] old new (Halted LogFull line)
 stops_full w part old new why line is goes = subst (λ (h : Halt). GoesPast 1 w part [] [] old new (Err h)) is goes
 
-pub finish-requires-clause-there : goal.finish-requires-clause-there
-finish-requires-clause-there g c κs =
-    ap (λ (h : HandValue View). h.there)
-    (stops_full c.new-world.result _ c.fill.new.track c.meet.new.self c.in-Err-LogFull.field-0 c.in-Err-LogFull.line c.in-Err-LogFull.field-0-is (c.in-Err-LogFull.ensures.goes c.new-world.result [] c.in-Ok.ensures.can)).done.hand
-
-pub finish-requires-clause-unrefused : goal.finish-requires-clause-unrefused
-finish-requires-clause-unrefused g c κs =
-    (stops_full c.new-world.result _ c.fill.new.track c.meet.new.self c.in-Err-LogFull.field-0 c.in-Err-LogFull.line c.in-Err-LogFull.field-0-is (c.in-Err-LogFull.ensures.goes c.new-world.result [] c.in-Ok.ensures.can)).unrefused
+pub finish-requires-clause-puts : goal.finish-requires-clause-puts
+finish-requires-clause-puts g c κs =
+    let made = stops_full c.new-world.result _ c.fill.new.track c.meet.new.self c.in-Err-LogFull.field-0 c.in-Err-LogFull.line c.in-Err-LogFull.field-0-is (c.in-Err-LogFull.ensures.goes c.new-world.result [] c.in-Ok.ensures.can) in
+    record { there = ap (λ (h : HandValue View). h.there) made.done.hand; unrefused = made.unrefused }

@@ -7,6 +7,6 @@ pub returns-clause-fills : goal.returns-clause-fills
 returns-clause-fills g c = λ dir rows is all.
     c.in_ok-self.ensures.goes dir rows (subst (λ (s : Stage). IsStage c.args.format (g.F.Folder.state c.args.folder.now).content dir rows c.args.self.now.window s) (sym c.replace-stage.ensures.value) is) all
 
-pub returns-clause-kept : goal.returns-clause-kept
-returns-clause-kept g c = λ dir rows is all.
-    c.in_ok-self.ensures.kept dir rows (subst (λ (s : Stage). IsStage c.args.format (g.F.Folder.state c.args.folder.now).content dir rows c.args.self.now.window s) (sym c.replace-stage.ensures.value) is) all
+pub returns-clause-batch : goal.returns-clause-batch
+returns-clause-batch g c = λ dir rows is all.
+    c.in_ok-self.ensures.batch dir rows (subst (λ (s : Stage). IsStage c.args.format (g.F.Folder.state c.args.folder.now).content dir rows c.args.self.now.window s) (sym c.replace-stage.ensures.value) is) all

@@ -21,9 +21,10 @@ returns-in_err-walk_log-clause-refused g c =
     let stands = begins_stack c.deref.result.now c.in_ok-stack.stack good c.in_ok-stack.ensures.place c.in_ok-stack.ensures.segments in
     let row = root_row c.deref.result.now good in
     let at : slice_get c.deref.result.now c.in_ok-stack.stack.place ≡ Some row.0 = ap (λ (n : ℕ). slice_get c.deref.result.now n) c.in_ok-stack.ensures.place ∙ row.1 in
+    let refused = c.in_err-walk_log.ensures.refused [] row.0 stands at in
     rw (p.1, p.2) (
-      refuses_root row.0.path c.in_err-walk_log.field-0.0 (first_row c.deref.result.now row.0 good row.1) (c.in_err-walk_log.ensures.of_row row.0 at),
-      λ content told. c.in_err-walk_log.ensures.refused [] row.0 stands at content (ap (λ s. s.content) c.in_ok-rows.ensures.same ∙ told)
+      refuses_root row.0.path c.in_err-walk_log.field-0.0 (first_row c.deref.result.now row.0 good row.1) refused.0,
+      λ content told. refused.1 content (ap (λ s. s.content) c.in_ok-rows.ensures.same ∙ told)
           (walked_none content.held c.args.dir.now c.deref.result.now (subst (λ (rs : List Row). IsIndex c.args.format content.held c.args.dir.now rs) (sym c.deref.ensures.value) (c.in_ok-rows.ensures.found content told))),
     )
 
