@@ -114,12 +114,18 @@ fn failed_at(alloc: Global, call: u64) -> Result<Option<MemFolder>, Memory> {
     }
 }
 
+// Whether this call fails, and leaves what was put before it and the file that was there.
+fn leaves_first(alloc: Global, call: u64) -> Result<bool, Memory> {
+    let Some(folder) = failed_at(alloc, call)? else {
+        return Ok(false);
+    };
+    Ok(file(&folder, "g/other").len() == 4 && has_first(&folder, call))
+}
+
 #[test]
 fn after_a_failed_call_no_later_log_is_there(rt: HostRuntime) -> Result<(), Fail> {
     for call in 1..11 {
-        let folder = failed_at(rt.alloc(), call)?.ok_or("no failure")?;
-        assert!(rt; file(&folder, "g/other").len() == 4);
-        assert!(rt; has_first(&folder, call), "at call {call}");
+        assert!(rt; leaves_first(rt.alloc(), call)?, "at call {call}");
     }
     Ok(())
 }

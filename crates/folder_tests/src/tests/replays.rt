@@ -64,14 +64,14 @@ fn answer(alloc: Global, text: &str, lane: u16, records: &[Record]) -> Result<(u
 // A kernel, a lane, its records, and the answer.
 type Case<'a> = (&'a str, u16, &'a [Record], (u32, usize));
 
-// The first of these cases with another answer, by its number from 0.
-fn first_other(alloc: Global, cases: &[Case<'_>]) -> Result<Option<usize>, Fail> {
+// Fails with the number, from 0, of the first of these cases that has another answer.
+fn are_answered(alloc: Global, cases: &[Case<'_>]) -> Result<(), Fail> {
     for (number, (text, lane, records, due)) in cases.iter().enumerate() {
         if answer(alloc, text, *lane, records)? != *due {
-            return Ok(Some(number));
+            return Err(Fail::from(number));
         }
     }
-    Ok(None)
+    Ok(())
 }
 
 macro_rules! access {
@@ -164,8 +164,7 @@ const FIELDS: &[Case<'static>] = &[
 
 #[test]
 fn each_field_of_a_record_counts(rt: HostRuntime) -> Result<(), Fail> {
-    assert_eq!(rt; first_other(rt.alloc(), FIELDS)?, None);
-    Ok(())
+    are_answered(rt.alloc(), FIELDS)
 }
 
 const DIVIDED: &str = "main {\nlet x = 1 / 0\n}";
@@ -179,8 +178,7 @@ const LENGTHS: &[Case<'static>] = &[
 
 #[test]
 fn a_log_is_neither_shorter_nor_longer_than_the_trace(rt: HostRuntime) -> Result<(), Fail> {
-    assert_eq!(rt; first_other(rt.alloc(), LENGTHS)?, None);
-    Ok(())
+    are_answered(rt.alloc(), LENGTHS)
 }
 
 const DRAWN: &str =
@@ -209,8 +207,7 @@ const CHUNKS: &[Case<'static>] = &[
 
 #[test]
 fn chunks_are_those_that_the_log_draws(rt: HostRuntime) -> Result<(), Fail> {
-    assert_eq!(rt; first_other(rt.alloc(), CHUNKS)?, None);
-    Ok(())
+    are_answered(rt.alloc(), CHUNKS)
 }
 
 const SECTIONS: &str =
@@ -243,8 +240,7 @@ const VALUES: &[Case<'static>] = &[
 
 #[test]
 fn a_value_is_that_of_its_element(rt: HostRuntime) -> Result<(), Fail> {
-    assert_eq!(rt; first_other(rt.alloc(), VALUES)?, None);
-    Ok(())
+    are_answered(rt.alloc(), VALUES)
 }
 
 const FORKING: &str = "main {\nlet x = 5\nparallel 2 {\n}\n}";
@@ -256,6 +252,5 @@ const SPANS: &[Case<'static>] = &[
 
 #[test]
 fn a_region_has_its_span_and_starts_from_the_locals(rt: HostRuntime) -> Result<(), Fail> {
-    assert_eq!(rt; first_other(rt.alloc(), SPANS)?, None);
-    Ok(())
+    are_answered(rt.alloc(), SPANS)
 }

@@ -2,7 +2,7 @@
 
 use generated_run::generate;
 use log_upgrade::{UpgradeFault, upgrade};
-use log_walk::{WalkFault, walk, walk_old};
+use log_walk::{Segment, WalkFault, walk, walk_old};
 use memory_environment::MemFolder;
 use race_model::IndexWhy;
 use std::alloc::Global;
@@ -77,23 +77,37 @@ fn brought<F: Folder>(
     }
 }
 
+// How many segments a walk found.
+fn segments_of(walked: Result<Vec<Segment>, WalkFault>) -> Option<usize> {
+    Some(walked.ok()?.len())
+}
+
 #[test]
 fn a_folder_that_was_brought_over_is_the_one_that_is_written_now(
     rt: HostRuntime,
 ) -> Result<(), Fail> {
     let alloc = rt.alloc();
     let mut folder = both(alloc)?;
-    let old = walk_old(alloc, &mut folder, "d").ok();
-    assert!(rt; old.is_some_and(|found| found.len() == 16));
-    assert!(rt; brought(alloc, &mut folder, "d", "e").ok() == Some(9));
-    assert_eq!(rt; first_other(alloc, &folder)?, None);
-    let new = walk(alloc, &mut folder, "e").ok();
-    assert!(rt; new.is_some_and(|found| found.len() == 16));
-    Ok(())
+    let old = segments_of(walk_old(alloc, &mut folder, "d"));
+    let logs = brought(alloc, &mut folder, "d", "e").ok();
+    let new = segments_of(walk(alloc, &mut folder, "e"));
+    assert!(rt; (old, logs, new) == (Some(16), Some(9), Some(16)));
+    match first_other(alloc, &folder)? {
+        Some(name) => Err(Fail::from(name)),
+        None => Ok(()),
+    }
 }
 
 fn is_header(fault: &WalkFault) -> bool {
     matches!(fault, WalkFault::BadIndex { row: 0, why } if *why == IndexWhy::Header)
+}
+
+// Whether a folder isn't brought over for its header.
+fn is_refused(answer: Result<u32, Option<UpgradeFault>>) -> bool {
+    match answer {
+        Err(Some(UpgradeFault::Walk(fault))) => is_header(&fault),
+        _ => false,
+    }
 }
 
 // A folder of the second format isn't one of the first.
@@ -102,13 +116,12 @@ fn what_is_of_the_second_format_is_not_brought_over(rt: HostRuntime) -> Result<(
     let alloc = rt.alloc();
     let mut folder = both(alloc)?;
     let walked = walk_old(alloc, &mut folder, "n").err();
-    assert!(rt; walked.is_some_and(|fault| is_header(&fault)));
-    let refused = brought(alloc, &mut folder, "n", "e").err();
-    assert!(rt;
-        refused.is_some_and(
-            |fault| matches!(fault, Some(UpgradeFault::Walk(why)) if is_header(&why))
-        )
-    );
-    assert!(rt; folder.file("e/t.swl").is_none() && folder.file("e/index.swi").is_none());
+    let told = [
+        walked.is_some_and(|fault| is_header(&fault)),
+        is_refused(brought(alloc, &mut folder, "n", "e")),
+        folder.file("e/t.swl").is_none(),
+        folder.file("e/index.swi").is_none(),
+    ];
+    assert!(rt; told == [true; 4], "{told:?}");
     Ok(())
 }

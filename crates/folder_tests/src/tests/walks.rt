@@ -172,14 +172,14 @@ fn is_told(alloc: Global, folder: MemFolder, due: Told) -> bool {
     walked(alloc, &mut folder, "d") == due && walked(alloc, &mut ShortReads { folder }, "d") == due
 }
 
-// The first of these folders of which something else is told, by its number from 0.
-fn first_other(alloc: Global, table: &[(Files<'_>, Told)]) -> Result<Option<usize>, Memory> {
+// Fails with the number, from 0, of the first of these folders of which something else is told.
+fn are_told(alloc: Global, table: &[(Files<'_>, Told)]) -> Result<(), Fail> {
     for (number, (files, due)) in table.iter().enumerate() {
         if !is_told(alloc, folder_of(alloc, files)?, *due) {
-            return Ok(Some(number));
+            return Err(Fail::from(number));
         }
     }
-    Ok(None)
+    Ok(())
 }
 
 fn segments_of(alloc: Global, files: &Files<'_>) -> Result<Vec<Segment>, Fail> {
@@ -372,8 +372,7 @@ const BROKEN: &[(Files<'static>, Told)] = &[
 
 #[test]
 fn one_record_that_breaks_a_rule_is_told(rt: HostRuntime) -> Result<(), Fail> {
-    assert_eq!(rt; first_other(rt.alloc(), BROKEN)?, None);
-    Ok(())
+    are_told(rt.alloc(), BROKEN)
 }
 
 // The lock of this mutex.
@@ -413,8 +412,7 @@ const COUNTED: &[(Files<'static>, Told)] = &[
 
 #[test]
 fn open_and_deep_locks_and_wrong_counts_are_told(rt: HostRuntime) -> Result<(), Fail> {
-    assert_eq!(rt; first_other(rt.alloc(), COUNTED)?, None);
-    Ok(())
+    are_told(rt.alloc(), COUNTED)
 }
 
 const TWICE_BROKEN: &[(Files<'static>, Told)] = &[
@@ -460,8 +458,7 @@ const TWICE_BROKEN: &[(Files<'static>, Told)] = &[
 
 #[test]
 fn of_two_broken_rules_the_first_is_told(rt: HostRuntime) -> Result<(), Fail> {
-    assert_eq!(rt; first_other(rt.alloc(), TWICE_BROKEN)?, None);
-    Ok(())
+    are_told(rt.alloc(), TWICE_BROKEN)
 }
 
 // A row below lane 1, which forks no region, and barriers that lane 0 passes alone.
@@ -491,8 +488,7 @@ const TOO_FEW_BARRIERS: &[(Files<'static>, Told)] = &[
 
 #[test]
 fn a_region_that_is_not_forked_comes_before_too_few_barriers(rt: HostRuntime) -> Result<(), Fail> {
-    assert_eq!(rt; first_other(rt.alloc(), TOO_FEW_BARRIERS)?, None);
-    Ok(())
+    are_told(rt.alloc(), TOO_FEW_BARRIERS)
 }
 
 // The root's records, and what is told of it.
@@ -532,8 +528,7 @@ const IN_ORDER: &[(Files<'static>, Told)] = &[
 
 #[test]
 fn the_first_log_in_row_order_is_told(rt: HostRuntime) -> Result<(), Fail> {
-    assert_eq!(rt; first_other(rt.alloc(), IN_ORDER)?, None);
-    Ok(())
+    are_told(rt.alloc(), IN_ORDER)
 }
 
 // A lane of a team of none, and a root whose first record has no kind.
@@ -551,14 +546,21 @@ const OLD_INDEX: Files<'static> = Files {
     others: &[("d/index.swi", b"SWIDX001")],
 };
 
+// What is told of a folder that isn't there, beside the bad one.
+fn told_of_none(alloc: Global) -> Result<Told, Memory> {
+    let mut folder = folder_of(alloc, &BAD_INDEX)?;
+    Ok(walked(alloc, &mut folder, "e"))
+}
+
+const INDEXES: &[(Files<'static>, Told)] = &[
+    (BAD_INDEX, Told::Row(3, IndexWhy::Span)),
+    (OLD_INDEX, Told::Row(0, IndexWhy::Old)),
+];
+
 #[test]
 fn the_index_comes_before_the_logs(rt: HostRuntime) -> Result<(), Fail> {
-    let mut folder = folder_of(rt.alloc(), &BAD_INDEX)?;
-    assert!(rt; walked(rt.alloc(), &mut folder, "e") == Told::NoIndex);
-    assert!(rt; is_told(rt.alloc(), folder, Told::Row(3, IndexWhy::Span)));
-    let old = folder_of(rt.alloc(), &OLD_INDEX)?;
-    assert!(rt; is_told(rt.alloc(), old, Told::Row(0, IndexWhy::Old)));
-    Ok(())
+    assert!(rt; told_of_none(rt.alloc())? == Told::NoIndex);
+    are_told(rt.alloc(), INDEXES)
 }
 
 // A row may claim any number of records: what is read is what is there.
@@ -571,8 +573,7 @@ const CLAIMED: &[(Files<'static>, Told)] = &[lane_1!(
 
 #[test]
 fn a_row_that_claims_too_many_records_is_told(rt: HostRuntime) -> Result<(), Fail> {
-    assert_eq!(rt; first_other(rt.alloc(), CLAIMED)?, None);
-    Ok(())
+    are_told(rt.alloc(), CLAIMED)
 }
 
 // Lane 1's log up to a byte, these bytes, and the log from another byte on.
@@ -606,8 +607,8 @@ const SPLICED: &[(Splice<'static>, Told)] = &[
 
 #[test]
 fn bytes_that_change_or_are_left_out_or_added_are_told(rt: HostRuntime) -> Result<(), Fail> {
-    for (splice, due) in SPLICED {
-        assert!(rt; is_told_of(rt.alloc(), splice, *due)?, "{splice:?}");
+    for (number, (splice, due)) in SPLICED.iter().enumerate() {
+        assert!(rt; is_told_of(rt.alloc(), splice, *due)?, "splice {number}");
     }
     Ok(())
 }
@@ -650,6 +651,12 @@ fn failing_at(alloc: Global, files: &Files<'_>, call: u64) -> Result<MemFolder, 
     Ok(folder)
 }
 
+// What is told of the good folder where this call on it fails.
+fn told_failing(alloc: Global, call: u64) -> Result<Told, Memory> {
+    let mut folder = failing_at(alloc, &GOOD, call)?;
+    Ok(walked(alloc, &mut folder, "d"))
+}
+
 #[test]
 fn each_read_that_fails_is_told(rt: HostRuntime) -> Result<(), Fail> {
     // The size of the index and its five reads, and for each of three logs its size and two reads.
@@ -659,11 +666,7 @@ fn each_read_that_fails_is_told(rt: HostRuntime) -> Result<(), Fail> {
         } else {
             Told::Good
         };
-        let mut folder = failing_at(rt.alloc(), &GOOD, call)?;
-        assert!(rt;
-            walked(rt.alloc(), &mut folder, "d") == due,
-            "at call {call}"
-        );
+        assert!(rt; told_failing(rt.alloc(), call)? == due, "at call {call}");
     }
     Ok(())
 }
@@ -693,6 +696,12 @@ fn regions_given<F: Folder>(alloc: Global, folder: &mut F, dir: &str) -> u32 {
     2
 }
 
+// The same of the folder of two regions where this call on it fails.
+fn given_failing(alloc: Global, call: u64) -> Result<u32, Memory> {
+    let mut folder = failing_at(alloc, &TWO_REGIONS, call)?;
+    Ok(regions_given(alloc, &mut folder, "d"))
+}
+
 #[test]
 fn a_region_is_given_before_the_next_is_read(rt: HostRuntime) -> Result<(), Fail> {
     // The size of the index and its five reads, and for each of three logs its size and two reads.
@@ -704,8 +713,7 @@ fn a_region_is_given_before_the_next_is_read(rt: HostRuntime) -> Result<(), Fail
         } else {
             2
         };
-        let mut folder = failing_at(rt.alloc(), &TWO_REGIONS, call)?;
-        assert_eq!(rt; regions_given(rt.alloc(), &mut folder, "d"), given);
+        assert!(rt; given_failing(rt.alloc(), call)? == given, "at call {call}");
     }
     Ok(())
 }
