@@ -18,7 +18,6 @@ main {
 }
 """
 LOGS = {"t.swl", "t-0.0.swl", "t-0.1.swl"}
-USAGE = None
 RACE = "race row 2 t-0.0.swl record 1 row 3 t-0.1.swl record 1 byte 4096\n"
 
 
@@ -114,8 +113,6 @@ def arguments(cases):
     }
     limits = {"check": 64, "run": 4194304, "live": 4194304, "gen": 100000, "explain": 4294967295, "confirm": 65536}
     usage = cases.ask([])[1]
-    global USAGE
-    USAGE = usage
     assert usage.startswith("usage: sword"), usage
 
     def refused(what, words):
@@ -152,26 +149,21 @@ def arguments(cases):
 def kernels(cases):
     texts = [
         ("nothing", b"", "kernel line 1: Syntax"),
-        ("a byte 0", b"main { \0 }", "kernel line 1: Character"),
-        ("a byte order mark", b"\xef\xbb\xbfmain { }", "kernel line 1: Character"),
+        ("a byte 0", b"main { \0 }", "kernel line 1: Token"),
+        ("a byte order mark", b"\xef\xbb\xbfmain { }", "kernel line 1: Token"),
         ("a byte 255 in line 3", b"main {\n\n\xff }", "kernel line 3: NotUtf8"),
         ("65,537 bytes", b"main { } #" + b"x" * 65527, "kernel line 1: Large"),
-        ("65,536 opening brackets", b"main { let x = " + b"(" * 65521, "kernel line 1: Deep"),
-        ("65,536 opening braces", b"main " + b"{" * 65531, None),
+        ("65,521 opening brackets", b"main { let x = " + b"(" * 65521, "kernel line 1: Deep"),
+        ("65,531 opening braces", b"main " + b"{" * 65531, "kernel line 1: Syntax"),
         ("65,536 line feeds", b"\n" * 65536, "kernel line 65537: Syntax"),
-        ("a number of 65,000 digits", b"main { let x = " + b"1" * 65000 + b" }", "kernel line 1: Number"),
-        ("a name of 65,000 letters", b"main { let " + b"x" * 65000 + b" = 1 }", None),
-        ("20,000 variables", b"main { " + b" ".join(b"let v%d = 1" % n for n in range(4000)) + b" }", None),
+        ("a number of 65,000 digits", b"main { let x = " + b"1" * 65000 + b" }", "kernel line 1: Token"),
+        ("a name of 65,000 letters", b"main { let " + b"x" * 65000 + b" = 1 }", "kernel line 1: Token"),
+        ("4,000 variables", b"main { " + b" ".join(b"let v%d = 1" % n for n in range(4000)) + b" }", None),
         ("a value with 10,000 terms", b"main { let x = 1" + b" + 1" * 10000 + b" }", None),
         ("a comment without an end", b"main { } # " + b"{" * 60000, None),
     ]
     for name, text, refusal in texts:
         kernel, new = write(cases.path("text"), text), cases.path("new")
-        found = cases.ask(["run", kernel, new, "4096"])
-        if refusal is None:
-            print(f"    of {name} `run` says {found[0]} {found[1][:60]!r}, {found[2]:.2f} s, {found[3]:.0f} MiB")
-            refusal = found[1].rstrip("\n") if found[0] == 3 else None
-        shutil.rmtree(new, ignore_errors=True)
         for command, words in [("run", [new, "4096"]), ("live", [new, "4096"]), ("certify", []), ("replay", [cases.path("good")])]:
             status, said = (3, refusal + "\n") if refusal else {"certify": (0, "certain\ntasks 1\nrecords 1\n"), "replay": (1, "differs t.swl record 1\n")}.get(command, (0, "tasks 1\nrecords 1\n"))
             cases.due(f"{command} of a kernel with {name}", [command, kernel, *words], status, said, [cases.path("good")])
@@ -179,7 +171,7 @@ def kernels(cases):
     for command, words in [("run", [cases.path("new"), "24"]), ("live", [cases.path("new"), "24"]), ("certify", []), ("replay", [cases.path("good")])]:
         cases.due(f"{command} of a kernel that is nowhere", [command, cases.path("none"), *words], 3, "no kernel\n")
     endless = write(cases.path("endless"), "array a i64 1\nmain { loop i in 0 .. 9223372036854775807 { a[0] = i } }\n")
-    cases.due("certify of a loop of 2^63 turns", ["certify", endless], 1, None, [], 60, 600)
+    cases.due("certify of a loop of 2^63 turns", ["certify", endless], 1, "uncertain: stopped t.swl line 2: LogFull\n", [], 60, 600)
     # a log has room for 4,194,304 records
     for command in ["run", "live"]:
         cases.due(f"{command} of a loop of 2^63 turns", [command, endless, cases.path("new"), "65536"], 5, "stopped t.swl line 2: LogFull\n", [], 60)
@@ -218,9 +210,6 @@ def folders(cases):
     ]
     for number, (what, changes, refusal) in enumerate(of_folders):
         for old in [False, True]:
-            if old and "index_swi" in changes and "a second" not in what:
-                # (its header is changed too)
-                pass
             folder = copy(cases, f"{'old' if old else 'new'}-{number}", old, **changes)
             new = cases.path("left")
             if old:
@@ -244,7 +233,7 @@ def folders(cases):
     cases.due("upgrade of a folder to itself", ["upgrade", old, old], 9, "index exists\n", [old])
     cases.due("upgrade of a folder of the second format", ["upgrade", good, cases.path("left")], 4, "bad index row 0: Header\n", [good])
     cases.due("upgrade to a folder below a file", ["upgrade", old, os.path.join(cases.path("kernel"), "x")], 7, "", [old])
-    cases.due("upgrade to a folder below one that is nowhere", ["upgrade", old, cases.path("none", "x")], 7, "", [old])
+    cases.due("upgrade to a folder below one that is nowhere", ["upgrade", old, cases.path("none", "x")], 0, "upgraded 3\n", [old])
     cases.due("upgrade to a folder inside", ["upgrade", old, os.path.join(old, "x")], 0, "upgraded 3\n")
     cases.due("check of it", ["check", os.path.join(old, "x"), "1"], 1, "race 3 3\nraces 1\n")
     for command in ["run", "live"]:
