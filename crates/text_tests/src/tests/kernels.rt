@@ -33,27 +33,27 @@ fn is_refused(alloc: Global, text: &[u8], line: u32, why: KernelWhy) -> bool {
     }
 }
 
-// The first of these texts that isn't read, by its number from 0.
-pub fn first_unread(alloc: Global, texts: &[&[u8]]) -> Option<usize> {
+// Fails with the number, from 0, of the first of these texts that isn't read.
+pub fn are_read(alloc: Global, texts: &[&[u8]]) -> Result<(), Fail> {
     for (number, text) in texts.iter().enumerate() {
         if !is_read(alloc, text) {
-            return Some(number);
+            return Err(Fail::from(number));
         }
     }
-    None
+    Ok(())
 }
 
 // A text, and the line and the reason for which it is refused.
 pub type Refused<'a> = (&'a [u8], u32, KernelWhy);
 
-// The first of these texts that isn't refused so, by its number from 0.
-pub fn first_other(alloc: Global, rows: &[Refused<'_>]) -> Option<usize> {
+// Fails with the number, from 0, of the first of these texts that isn't refused so.
+pub fn are_refused(alloc: Global, rows: &[Refused<'_>]) -> Result<(), Fail> {
     for (number, (text, line, why)) in rows.iter().enumerate() {
         if !is_refused(alloc, text, *line, *why) {
-            return Some(number);
+            return Err(Fail::from(number));
         }
     }
-    None
+    Ok(())
 }
 
 // Whether a text is refused at this line for this reason, or is read where none is given.
@@ -171,8 +171,8 @@ const READ: &[&[u8]] = &[
 ];
 
 #[test]
-fn kernels_of_the_whole_language_are_read(rt: HostRuntime) {
-    assert_eq!(rt; first_unread(rt.alloc(), READ), None);
+fn kernels_of_the_whole_language_are_read(rt: HostRuntime) -> Result<(), Fail> {
+    are_read(rt.alloc(), READ)
 }
 
 const DECLARATIONS: &[Refused<'static>] = &[
@@ -205,8 +205,8 @@ const DECLARATIONS: &[Refused<'static>] = &[
 ];
 
 #[test]
-fn a_broken_rule_of_a_declaration_tells_its_line_and_why(rt: HostRuntime) {
-    assert_eq!(rt; first_other(rt.alloc(), DECLARATIONS), None);
+fn a_broken_rule_of_a_declaration_tells_its_line_and_why(rt: HostRuntime) -> Result<(), Fail> {
+    are_refused(rt.alloc(), DECLARATIONS)
 }
 
 const NAMES: &[Refused<'static>] = &[
@@ -265,8 +265,8 @@ const NAMES: &[Refused<'static>] = &[
 ];
 
 #[test]
-fn a_broken_rule_of_a_name_tells_its_line_and_why(rt: HostRuntime) {
-    assert_eq!(rt; first_other(rt.alloc(), NAMES), None);
+fn a_broken_rule_of_a_name_tells_its_line_and_why(rt: HostRuntime) -> Result<(), Fail> {
+    are_refused(rt.alloc(), NAMES)
 }
 
 const SECTIONS: &[Refused<'static>] = &[
@@ -382,8 +382,8 @@ const SECTIONS: &[Refused<'static>] = &[
 ];
 
 #[test]
-fn a_broken_rule_of_a_section_tells_its_line_and_why(rt: HostRuntime) {
-    assert_eq!(rt; first_other(rt.alloc(), SECTIONS), None);
+fn a_broken_rule_of_a_section_tells_its_line_and_why(rt: HostRuntime) -> Result<(), Fail> {
+    are_refused(rt.alloc(), SECTIONS)
 }
 
 const LIGHT: &[&[u8]] = &[
@@ -398,9 +398,9 @@ const HEAVY: &[Refused<'static>] = &[(
 )];
 
 #[test]
-fn a_region_weighs_at_most_65536(rt: HostRuntime) {
-    assert_eq!(rt; first_unread(rt.alloc(), LIGHT), None);
-    assert_eq!(rt; first_other(rt.alloc(), HEAVY), None);
+fn a_region_weighs_at_most_65536(rt: HostRuntime) -> Result<(), Fail> {
+    are_read(rt.alloc(), LIGHT)?;
+    are_refused(rt.alloc(), HEAVY)
 }
 
 // A text, so many times another one behind it, and a third; and the refusal of all, if it is one.
@@ -412,15 +412,15 @@ pub type Long<'a> = (
     Option<(u32, KernelWhy)>,
 );
 
-// The first of these texts that is told otherwise, by its number from 0.
-pub fn first_other_long(alloc: Global, rows: &[Long<'_>]) -> Result<Option<usize>, AllocError> {
+// Fails with the number, from 0, of the first of these texts that is told otherwise.
+pub fn are_told(alloc: Global, rows: &[Long<'_>]) -> Result<(), Fail> {
     for (number, (before, text, count, behind, refusal)) in rows.iter().enumerate() {
         let bytes = repeated(alloc, before, text, *count, behind)?;
         if !tells(alloc, &bytes, *refusal) {
-            return Ok(Some(number));
+            return Err(Fail::from(number));
         }
     }
-    Ok(None)
+    Ok(())
 }
 
 const EIGHT: &[u8] =
@@ -439,8 +439,7 @@ const NESTED: &[Long<'static>] = &[
 
 #[test]
 fn eight_critical_sections_nest(rt: HostRuntime) -> Result<(), Fail> {
-    assert_eq!(rt; first_other_long(rt.alloc(), NESTED)?, None);
-    Ok(())
+    are_told(rt.alloc(), NESTED)
 }
 
 // Declarations of names of two letters, in a line each: the first letter and each of the second ones.
@@ -526,8 +525,7 @@ const NO_UTF8: &[Long<'static>] = &[(b"\n\xff", b"\xff", 65535, b"", TOO_LONG)];
 fn a_text_has_at_most_65536_bytes(rt: HostRuntime) -> Result<(), Fail> {
     assert!(rt; tells_padded(rt.alloc(), 65536, None)?);
     assert!(rt; tells_padded(rt.alloc(), 65537, TOO_LONG)?);
-    assert_eq!(rt; first_other_long(rt.alloc(), NO_UTF8)?, None);
-    Ok(())
+    are_told(rt.alloc(), NO_UTF8)
 }
 
 const NO_KERNELS: &[Refused<'static>] = &[
@@ -584,8 +582,8 @@ const NO_KERNELS: &[Refused<'static>] = &[
 ];
 
 #[test]
-fn a_text_that_is_no_kernel_tells_its_line_and_why(rt: HostRuntime) {
-    assert_eq!(rt; first_other(rt.alloc(), NO_KERNELS), None);
+fn a_text_that_is_no_kernel_tells_its_line_and_why(rt: HostRuntime) -> Result<(), Fail> {
+    are_refused(rt.alloc(), NO_KERNELS)
 }
 
 // A text, so many times another one, a third, and so many times a fourth, and a fifth.
@@ -628,8 +626,7 @@ fn at_most_32_levels_are_open(rt: HostRuntime) -> Result<(), Fail> {
     for text in OPEN {
         assert!(rt; is_closed_read(rt.alloc(), text)?);
     }
-    assert_eq!(rt; first_other_long(rt.alloc(), TOO_DEEP)?, None);
-    Ok(())
+    are_told(rt.alloc(), TOO_DEEP)
 }
 
 const LONG: &[Long<'static>] = &[
@@ -655,8 +652,7 @@ const LONG: &[Long<'static>] = &[
 
 #[test]
 fn long_texts_are_read_to_their_end(rt: HostRuntime) -> Result<(), Fail> {
-    assert_eq!(rt; first_other_long(rt.alloc(), LONG)?, None);
-    Ok(())
+    are_told(rt.alloc(), LONG)
 }
 
 const NAMED: &[Long<'static>] = &[
@@ -672,8 +668,7 @@ const NAMED: &[Long<'static>] = &[
 
 #[test]
 fn a_name_has_at_most_32_bytes(rt: HostRuntime) -> Result<(), Fail> {
-    assert_eq!(rt; first_other_long(rt.alloc(), NAMED)?, None);
-    Ok(())
+    are_told(rt.alloc(), NAMED)
 }
 
 const NUMBERS: &[&[u8]] = &[
@@ -700,9 +695,9 @@ const TOO_LARGE: &[Refused<'static>] = &[
 ];
 
 #[test]
-fn a_number_is_at_most_9223372036854775807(rt: HostRuntime) {
-    assert_eq!(rt; first_unread(rt.alloc(), NUMBERS), None);
-    assert_eq!(rt; first_other(rt.alloc(), TOO_LARGE), None);
+fn a_number_is_at_most_9223372036854775807(rt: HostRuntime) -> Result<(), Fail> {
+    are_read(rt.alloc(), NUMBERS)?;
+    are_refused(rt.alloc(), TOO_LARGE)
 }
 
 const SPANS: &[&[u8]] = &[b"main { parallel 1 { } }", b"main { parallel 64 { } }"];
@@ -722,9 +717,9 @@ const OTHER_SPANS: &[Refused<'static>] = &[
 ];
 
 #[test]
-fn a_region_has_1_to_64_lanes(rt: HostRuntime) {
-    assert_eq!(rt; first_unread(rt.alloc(), SPANS), None);
-    assert_eq!(rt; first_other(rt.alloc(), OTHER_SPANS), None);
+fn a_region_has_1_to_64_lanes(rt: HostRuntime) -> Result<(), Fail> {
+    are_read(rt.alloc(), SPANS)?;
+    are_refused(rt.alloc(), OTHER_SPANS)
 }
 
 const MOST_LANES: &[&[u8]] = &[
@@ -758,9 +753,9 @@ const MORE_LANES: &[Refused<'static>] = &[
 ];
 
 #[test]
-fn nested_regions_have_at_most_64_lanes_in_all(rt: HostRuntime) {
-    assert_eq!(rt; first_unread(rt.alloc(), MOST_LANES), None);
-    assert_eq!(rt; first_other(rt.alloc(), MORE_LANES), None);
+fn nested_regions_have_at_most_64_lanes_in_all(rt: HostRuntime) -> Result<(), Fail> {
+    are_read(rt.alloc(), MOST_LANES)?;
+    are_refused(rt.alloc(), MORE_LANES)
 }
 
 const IN_UTF8: &[&[u8]] = &[b"# \xc3\xa9\nmain { } # \xe2\x82\xac"];
@@ -780,7 +775,7 @@ const NOT_IN_UTF8: &[Refused<'static>] = &[
 ];
 
 #[test]
-fn a_text_is_utf8_to_its_last_byte(rt: HostRuntime) {
-    assert_eq!(rt; first_unread(rt.alloc(), IN_UTF8), None);
-    assert_eq!(rt; first_other(rt.alloc(), NOT_IN_UTF8), None);
+fn a_text_is_utf8_to_its_last_byte(rt: HostRuntime) -> Result<(), Fail> {
+    are_read(rt.alloc(), IN_UTF8)?;
+    are_refused(rt.alloc(), NOT_IN_UTF8)
 }

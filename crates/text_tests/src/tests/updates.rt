@@ -1,6 +1,6 @@
 //! Atomic updates: what they are read as, and the line and reason where they are refused.
 
-use super::kernels::{Long, Refused, first_other, first_other_long, first_unread};
+use super::kernels::{Long, Refused, are_read, are_refused, are_told};
 use kernel_reader::read_kernel;
 use kernel_syntax::{Expr, Stmt};
 use kernel_text::KernelWhy;
@@ -122,10 +122,10 @@ const BROKEN: &[Refused<'static>] = &[
 ];
 
 #[test]
-fn a_refused_update_tells_its_line_and_why(rt: HostRuntime) {
-    assert_eq!(rt; first_unread(rt.alloc(), READ), None);
-    assert_eq!(rt; first_other(rt.alloc(), NO_KERNELS), None);
-    assert_eq!(rt; first_other(rt.alloc(), BROKEN), None);
+fn a_refused_update_tells_its_line_and_why(rt: HostRuntime) -> Result<(), Fail> {
+    are_read(rt.alloc(), READ)?;
+    are_refused(rt.alloc(), NO_KERNELS)?;
+    are_refused(rt.alloc(), BROKEN)
 }
 
 // The index begins at level 0, and so does the amount.
@@ -169,6 +169,5 @@ const LONG: &[Long<'static>] = &[
 
 #[test]
 fn updates_nest_and_repeat_as_stores_do(rt: HostRuntime) -> Result<(), Fail> {
-    assert_eq!(rt; first_other_long(rt.alloc(), LONG)?, None);
-    Ok(())
+    are_told(rt.alloc(), LONG)
 }
