@@ -321,15 +321,16 @@ fn a_child_comes_when_what_was_sent_is_appended(rt: HostRuntime) -> Result<(), F
     Ok(())
 }
 
-// A log whose second append waits until it may go on, and notes how often it had to stop waiting.
+// A log whose second append tells that it began, waits until it may go on, and notes how often it had to stop waiting.
 #[derive(Drop)]
 struct Waiting {
     appends: u32,
+    began: Arc<AtomicU64>,
     may_go: Arc<AtomicU64>,
     gave_up: Arc<AtomicU64>,
 }
 
-/// How often a log looks whether it may go on.
+/// How often one looks whether a flag is set.
 const TURNS: u32 = 1_000_000;
 
 impl Log for Waiting {
@@ -347,16 +348,20 @@ impl Log for Waiting {
 
     fn append(&mut self, _alloc: Global, _piece: &[u8]) -> Result<(), Trouble> {
         self.appends = self.appends.saturating_add(1);
-        if self.appends == 2 && !is_let_go(&self.may_go) {
-            self.gave_up.fetch_add(1, Ordering::SeqCst);
+        if self.appends == 2 {
+            self.began.store(1, Ordering::SeqCst);
+            if !is_set(&self.may_go) {
+                self.gave_up.fetch_add(1, Ordering::SeqCst);
+            }
         }
         Ok(())
     }
 }
 
-fn is_let_go(may_go: &AtomicU64) -> bool {
+// Whether the flag is set before there were so many turns.
+fn is_set(flag: &AtomicU64) -> bool {
     for _ in 0..TURNS {
-        if may_go.load(Ordering::SeqCst) > 0 {
+        if flag.load(Ordering::SeqCst) > 0 {
             return true;
         }
         thread::yield_now();
@@ -367,10 +372,12 @@ fn is_let_go(may_go: &AtomicU64) -> bool {
 #[test]
 fn a_record_is_put_while_a_block_is_appended(rt: HostRuntime) -> Result<(), Fail> {
     let alloc = rt.alloc();
+    let began = Arc::new(alloc, AtomicU64::new(0))?;
     let may_go = Arc::new(alloc, AtomicU64::new(0))?;
     let gave_up = Arc::new(alloc, AtomicU64::new(0))?;
     let log = Waiting {
         appends: 0,
+        began: Arc::try_clone(&began)?,
         may_go: Arc::try_clone(&may_go)?,
         gave_up: Arc::try_clone(&gave_up)?,
     };
@@ -382,12 +389,16 @@ fn a_record_is_put_while_a_block_is_appended(rt: HostRuntime) -> Result<(), Fail
         buffer.ready(&rt, alloc)?;
         buffer.put(&barrier(line + 1));
     }
+    // The first block is being appended, and no call of this thread waits for that.
+    let began = is_set(&began);
+    buffer.ready(&rt, alloc)?;
+    buffer.put(&barrier(684));
     may_go.store(1, Ordering::SeqCst);
     match buffer.close(&rt, alloc) {
         Ok(log) => assert!(rt; log.appends == 3),
         Err(_) => assert!(rt; false),
     }
-    assert!(rt; gave_up.load(Ordering::SeqCst) == 0);
+    assert!(rt; began && gave_up.load(Ordering::SeqCst) == 0);
     Ok(())
 }
 
