@@ -62,7 +62,7 @@ pub record CanPut (p : Progress) : Type 0 where
   pub unrefused : p.buffer.refused ≡ None
 
 -- the mutex, one of those of the words, was won last
-pub record IsInnermost (w : WorldValue) (v : View) (mutex : ℕ) : Type 0 where
+pub record IsWonLast (w : WorldValue) (v : View) (mutex : ℕ) : Type 0 where
   pub within : mutex < w.words.locks
   pub last : v.held ≡ mutex ∷ rest v.held
 

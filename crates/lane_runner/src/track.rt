@@ -7,7 +7,7 @@ ghost use Rattle.kernel_model.specs.Changing.{kind_of};
 ghost use Rattle.kernel_model.specs.State.{put, event};
 ghost use Rattle.log_format.specs.declared.record.Kind.TheVariants as kind;
 ghost use Rattle.lane_runner.specs.World.{WorldValue};
-ghost use Rattle.lane_runner.specs.Going.{CanGo, CanPut, Goes, GoesPast, IsInnermost, IsSameLog, MakesRoom, site, TakesOrHalts, stop_for};
+ghost use Rattle.lane_runner.specs.Going.{CanGo, CanPut, Goes, GoesPast, IsWonLast, IsSameLog, MakesRoom, site, TakesOrHalts, stop_for};
 ghost use Rattle.shared_words.specs.Handles.{Belongs, with_view};
 ghost use Rattle.kernel_syntax.specs.Program.{team_of, code_of};
 ghost use Rattle.kernel_syntax.specs.Tree as tree;
@@ -265,7 +265,7 @@ impl<L: Log> Track<L> {
         line: u32,
     ) -> Result<(), Halt>
         requires can { CanGo world.now self.old }
-        requires innermost { IsInnermost world.now self.old.hand.view mutex }
+        requires innermost { IsWonLast world.now self.old.hand.view mutex }
         ensures takes { TakesOrHalts (event kind.Unlock line mutex 0) (unlocked self.old.hand.view mutex) self.old self.new result }
         ensures log { IsSameLog self.old.buffer self.new.buffer }
         ensures tally { self.new.tally ≡ self.old.tally }
@@ -280,7 +280,7 @@ impl<L: Log> Track<L> {
     /// Gives back the mutex that it won last at a stop, without a record.
     pub fn release(&mut self, world: &World, mutex: u16)
         requires belongs { Belongs self.old.hand world.now.words.table }
-        requires innermost { IsInnermost world.now self.old.hand.view mutex }
+        requires innermost { IsWonLast world.now self.old.hand.view mutex }
         ensures hand { self.new.hand ≡ with_view self.old.hand (unlocked self.old.hand.view mutex) }
         ensures log { self.new.buffer ≡ self.old.buffer }
         ensures tally { self.new.tally ≡ self.old.tally }

@@ -19,7 +19,8 @@ use std::thread::Threads;
 use sw_base::Log;
 use task_place::Locals;
 
-/// Reads an element, after its index.
+// Reads an element, after its index. It stands apart, so that `compound` needs no room for what it keeps.
+#[inline(never)]
 fn load<L: Log, R: Threads + Wait + Copy + Send + 'static>(
     rt: &R,
     alloc: Global,
