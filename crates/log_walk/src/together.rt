@@ -24,7 +24,7 @@ use sw_base::{Folder, Memory, Trouble};
 const FEW: u64 = 16_384;
 
 /// The most records of a log that are read at once.
-const MOST: usize = 10_920;
+const MOST: usize = 43_680;
 
 /// The most levels of a label below which one can be forked.
 const LEVELS: usize = 5;

@@ -181,7 +181,7 @@ fn give_the_same<R: Threads + Sync>(
 #[test]
 fn lanes_read_together_give_the_same_segments(rt: HostRuntime) -> Result<(), Fail> {
     let long = Lane {
-        writes: 12_000,
+        writes: 45_000,
         ..PLAIN
     };
     assert!(rt; give_the_same(&rt, rt.alloc(), &[PLAIN, forking(long), long, PLAIN])?);
@@ -264,7 +264,7 @@ fn first_untold<R: Threads + Sync>(
 #[test]
 fn a_read_that_fails_beside_others_is_told(rt: HostRuntime) -> Result<(), Fail> {
     let long = Lane {
-        writes: 12_000,
+        writes: 45_000,
         ..PLAIN
     };
     // The size of the index and its nine reads; for the root, three lanes and the two inner ones a size and two reads, and for the
