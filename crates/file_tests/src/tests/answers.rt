@@ -1,11 +1,32 @@
 //! Texts that are printed with a status, and what the failures of a print come to.
 
 use command_answer::{
-    DONE, KERNEL_REFUSED, NO_MEMORY, RACES, WRITE_FAULT, failure, print, print_made,
+    DIFFERS, DONE, FOLDER_REFUSED, INDEX_THERE, KERNEL_REFUSED, KERNEL_STOPPED, NO_MEMORY, RACES,
+    READ_FAULT, UNCERTAIN, USAGE, WRITE_FAULT, failure, print, print_made,
 };
 use memory_environment::MemOut;
 use std::alloc::Global;
 use sw_base::{Memory, Trouble};
+
+// Scripts rely on the numbers in the README's table of statuses.
+#[test]
+fn each_status_has_its_number(rt: HostRuntime) {
+    let statuses = [
+        DONE,
+        RACES,
+        DIFFERS,
+        UNCERTAIN,
+        USAGE,
+        KERNEL_REFUSED,
+        FOLDER_REFUSED,
+        KERNEL_STOPPED,
+        READ_FAULT,
+        WRITE_FAULT,
+        NO_MEMORY,
+        INDEX_THERE,
+    ];
+    assert!(rt; statuses == [0, 1, 1, 1, 2, 3, 4, 5, 6, 7, 8, 9]);
+}
 
 #[test]
 fn each_trouble_has_its_status(rt: HostRuntime) {

@@ -228,12 +228,18 @@ fn each_rule_is_told_at_row_2(rt: HostRuntime) {
         records: 0,
         ..lane(0, 0, 2)
     };
+    // Lane 1 before lane 0, and no records: the order is tried first.
+    let late = Spelled {
+        records: 0,
+        ..lane(0, 1, 2)
+    };
     let table = [
         (deep, IndexWhy::Depth),
         (lane(0, 0, 0), IndexWhy::Span),
         (lane(0, 3, 2), IndexWhy::Lane),
         (lane(0, 1, 2), IndexWhy::Order),
         (lane(1, 0, 1), IndexWhy::Order),
+        (late, IndexWhy::Order),
         (none, IndexWhy::Records),
     ];
     assert!(rt; first_other(rt.alloc(), &[ROOT], 2, &table) == Ok(None));

@@ -21,7 +21,7 @@ fn access(kind: Kind, size: u8, site: u16, line: u32, addr: u64, value: u64) -> 
 }
 
 /// The bytes of the format's vectors, and what they are.
-fn vectors() -> [([u64; 3], Result<Record, Why>); 11] {
+fn vectors() -> [([u64; 3], Result<Record, Why>); 35] {
     [
         (
             [0x0108_0001_0000_0005, 0x1000, 0],
@@ -43,12 +43,51 @@ fn vectors() -> [([u64; 3], Result<Record, Why>); 11] {
             [0x0908_0000_0000_0001, 0, 0],
             Ok(access(Kind::Update, 8, 0, 1, 0, 0)),
         ),
+        // writes and updates end at 2^48, too, and the last mutex is 2^16 - 1
+        (
+            [0x0208_0000_0000_0001, 0xffff_ffff_fff8, 0],
+            Ok(access(Kind::Write, 8, 0, 1, (1 << 48) - 8, 0)),
+        ),
+        (
+            [0x0908_0000_0000_0001, 0xffff_ffff_fff8, 0],
+            Ok(access(Kind::Update, 8, 0, 1, (1 << 48) - 8, 0)),
+        ),
+        (
+            [0x0400_0000_0000_0001, 65_535, 0],
+            Ok(access(Kind::Unlock, 0, 0, 1, 65_535, 0)),
+        ),
+        ([0x0400_0000_0000_0001, 65_536, 0], Err(Why::Address)),
         ([0x0a08_0000_0000_0001, 0, 0], Err(Why::Kind)),
+        // accesses of 3, 0, 16 and 6 bytes
         ([0x0103_0000_0000_0001, 0, 0], Err(Why::Size)),
+        ([0x0100_0000_0000_0001, 0, 0], Err(Why::Size)),
+        ([0x0210_0000_0000_0001, 0, 0], Err(Why::Size)),
+        ([0x0906_0000_0000_0001, 0, 0], Err(Why::Size)),
+        // what is no access has no bytes
+        ([0x0301_0000_0000_0001, 1, 0], Err(Why::Size)),
+        ([0x0401_0000_0000_0001, 1, 0], Err(Why::Size)),
+        ([0x0501_0000_0000_0001, 0, 0], Err(Why::Size)),
+        ([0x0701_0000_0000_0001, 0, 0], Err(Why::Size)),
+        ([0x0801_0000_0000_0001, 0, 0], Err(Why::Size)),
         ([0x0800_0000_0000_0000, 0, 0], Err(Why::LineZero)),
+        ([0x0600_0000_0000_0001, 0, 0], Err(Why::Span)),
         ([0x0600_0000_0000_0001, 0, 0x41], Err(Why::Span)),
         ([0x0500_0000_0000_0001, 0, 1], Err(Why::Reserved)),
         ([0x0700_0000_0000_0001, 3, 2], Err(Why::Reserved)),
+        // a site alone
+        ([0x0300_0001_0000_0001, 1, 0], Err(Why::Reserved)),
+        ([0x0400_0001_0000_0001, 1, 0], Err(Why::Reserved)),
+        ([0x0500_0001_0000_0001, 0, 0], Err(Why::Reserved)),
+        ([0x0600_0001_0000_0001, 0, 2], Err(Why::Reserved)),
+        ([0x0700_0001_0000_0001, 0, 0], Err(Why::Reserved)),
+        ([0x0800_0001_0000_0001, 0, 0], Err(Why::Reserved)),
+        // a value alone
+        ([0x0300_0000_0000_0001, 1, 1], Err(Why::Reserved)),
+        ([0x0400_0000_0000_0001, 1, 1], Err(Why::Reserved)),
+        ([0x0800_0000_0000_0001, 0, 1], Err(Why::Reserved)),
+        // an address alone
+        ([0x0600_0000_0000_0001, 1, 2], Err(Why::Reserved)),
+        ([0x0800_0000_0000_0001, 1, 0], Err(Why::Reserved)),
     ]
 }
 
@@ -61,11 +100,12 @@ fn decodes_the_vectors(rt: HostRuntime) {
     }
 }
 
-// What bytes are that spell this in the second format, in the first.
-fn without_updates(found: Result<Record, Why>) -> Result<Record, Why> {
-    match found {
-        Ok(record) if record.kind == Kind::Update => Err(Why::Kind),
-        _ => found,
+// What groups that are this in the second format are in the first: the kind is tested first, and there is no kind 9.
+fn without_updates(groups: [u64; 3], second: Result<Record, Why>) -> Result<Record, Why> {
+    if groups[0] >> 56 == 9 {
+        Err(Why::Kind)
+    } else {
+        second
     }
 }
 
@@ -74,7 +114,10 @@ fn the_first_format_has_no_updates(rt: HostRuntime) {
     for (groups, second) in vectors() {
         let bytes = joined(groups);
         let found = [decode_old(&bytes), decode_as(Format::First, &bytes)];
-        assert!(rt; found == [without_updates(second); 2], "of {groups:?}");
+        assert!(rt;
+            found == [without_updates(groups, second); 2],
+            "of {groups:?}"
+        );
     }
 }
 
