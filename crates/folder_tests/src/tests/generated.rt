@@ -6,6 +6,24 @@ use std::alloc::Global;
 use std::test::Fail;
 use sw_base::{Memory, Trouble};
 
+// The root's fork of eight lanes.
+const REGION: &[u8] = &[
+    6, 0, 0, 0, 0, 0, 0, 1, 0, 0, 0, 0, 0, 0, 0, 0, 0, 0, 0, 0, 0, 0, 0, 8,
+];
+
+const END: &[u8] = &[
+    8, 0, 0, 0, 0, 0, 0, 50, 0, 0, 0, 0, 0, 0, 0, 0, 0, 0, 0, 0, 0, 0, 0, 0,
+];
+
+// Lane 1's second write, at 4096 + 32 * 2 + 8.
+const PLAIN_WRITE: &[u8] = &[
+    2, 8, 0, 0, 0, 0, 0, 10, 0, 0, 0, 0, 0, 0, 16, 72, 0, 0, 0, 0, 0, 0, 0, 1,
+];
+
+const BARRIER: &[u8] = &[
+    5, 0, 0, 0, 0, 0, 0, 20, 0, 0, 0, 0, 0, 0, 0, 0, 0, 0, 0, 0, 0, 0, 0, 0,
+];
+
 const READ: &[u8] = &[
     1, 8, 0, 1, 0, 0, 0, 30, 0, 0, 0, 0, 0, 0, 16, 24, 0, 0, 0, 0, 0, 0, 0, 0,
 ];
@@ -21,6 +39,11 @@ const WRAPPED: &[u8] = &[
 
 // A log, the place of a record's first byte there, and its bytes.
 const SPELLED: &[(&str, usize, &[u8])] = &[
+    ("g/t.swl", 8, REGION),
+    ("g/t.swl", 32, END),
+    ("g/t-0.1.swl", 32, PLAIN_WRITE),
+    ("g/t-0.1.swl", 104, BARRIER),
+    ("g/t-0.1.swl", 224, END),
     ("g/t-0.2.swl", 128, READ),
     ("g/t-0.3.swl", 224, WRITE),
     ("g/t-0.7.swl", 176, WRAPPED),

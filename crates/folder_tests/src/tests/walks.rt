@@ -283,6 +283,25 @@ fn segments_have_the_labels_of_their_tasks(rt: HostRuntime) -> Result<(), Fail> 
     Ok(())
 }
 
+// Lane 0 stores before and after a draw, and lane 1 does nothing.
+const DRAWN: Files<'static> = three!(
+    rows!(2, 4, 1),
+    ROOT,
+    &[store!(4096), (7, 0, 3, 0, 1), store!(4104), END],
+    &[END]
+);
+
+// A segment goes from barrier to barrier, here from the log's first record to its End.
+#[test]
+fn a_chunk_parts_no_segment(rt: HostRuntime) -> Result<(), Fail> {
+    let found = segments_of(rt.alloc(), &DRAWN)?;
+    let [only] = found.as_slice() else {
+        return Err(Fail::new("one segment"));
+    };
+    assert!(rt; (only.first, only.last) == (1, 4));
+    Ok(())
+}
+
 // The records of lane 1, and what is told where its row has as many as it says.
 macro_rules! lane_1 {
     ($records:expr, $row:expr, $number:expr, $why:ident) => {
@@ -505,6 +524,8 @@ const IN_ORDER: &[(Files<'static>, Told)] = &[
     root!(&[region!(1, 65), LAST], 1, Span),
     root!(&[(5, 0, 1, 0, 0), LAST], 1, RootBarrier),
     root!(&[store!(4096), LAST], 2, RegionRows),
+    // The index lists this region with two lanes.
+    root!(&[region!(1, 3), LAST], 1, RegionRows),
     // Lane 0's last record and lane 1's first one have no kind.
     (
         three!(
@@ -641,6 +662,14 @@ fn told_of_segments(alloc: Global, count: u32, row: u32) -> Result<Told, Memory>
 fn the_65537th_segment_is_one_too_many(rt: HostRuntime) -> Result<(), Fail> {
     let answer = told_of_segments(rt.alloc(), 65_537, 131_075)?;
     assert!(rt; answer == Told::TooMany(1, 131_073));
+    Ok(())
+}
+
+// The row ends the log at the access that opens the 65,537th segment, which is no End.
+#[test]
+fn a_segment_too_many_comes_after_the_rules_of_its_record(rt: HostRuntime) -> Result<(), Fail> {
+    let answer = told_of_segments(rt.alloc(), 65_537, 131_073)?;
+    assert!(rt; answer == Told::Record(1, 131_073, RecordWhy::EndMissing));
     Ok(())
 }
 
