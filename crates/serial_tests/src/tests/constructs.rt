@@ -76,6 +76,17 @@ parallel 2 {
 critical { a[i] = 1 } } } } } }",
         Some(6),
     ),
+    // What follows an if, a barrier and a region is looked at, too.
+    (
+        "array a i64 8
+mutex m
+main { parallel 2 {
+if tid { a[0] = 1 }
+barrier
+parallel 2 { a[1] = 1 }
+critical m { a[2] = 1 } } }",
+        Some(7),
+    ),
 ];
 
 // The first case of which another line is found, by its number from 0.

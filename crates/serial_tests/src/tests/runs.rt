@@ -51,6 +51,25 @@ log t-1.0-0.0.swl records 2
 2 end line 8
 ",
     ),
+    // Of records that nothing orders those of the smaller lane come first: lane 1 reads what lane 0 wrote.
+    (
+        "array a i64 2
+main { parallel 2 { a[tid] = a[0] + 1 } }",
+        100,
+        "words 1 2
+log t.swl records 2
+1 region 2 line 2
+2 end line 2
+log t-0.0.swl records 3
+1 read 8 site 1 line 2 addr 4096 value 0
+2 write 8 site 0 line 2 addr 4096 value 1
+3 end line 2
+log t-0.1.swl records 3
+1 read 8 site 1 line 2 addr 4096 value 1
+2 write 8 site 0 line 2 addr 4104 value 2
+3 end line 2
+",
+    ),
     // Of two lanes that stop the first is told.
     (
         "array a i64 4

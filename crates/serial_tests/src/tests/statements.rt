@@ -73,6 +73,36 @@ log t.swl records 3
 ",
         ..MAIN
     },
+    // Every value but 0 chooses the first body, a negative one too.
+    Case {
+        text: "array a i64 8
+main {
+if -1 { a[0] = 1 } else { a[1] = 2 }
+}",
+        story: "ends
+words 1 0 0 0 0 0 0 0
+log t.swl records 2
+1 write 8 site 0 line 3 addr 4096 value 1
+2 end line 4
+",
+        ..MAIN
+    },
+    // A store reads for its index before it reads for its value.
+    Case {
+        text: "array a i64 8
+main {
+a[a[1]] = a[2]
+}",
+        story: "ends
+words 0 0 0 0 0 0 0 0
+log t.swl records 4
+1 read 8 site 1 line 3 addr 4104 value 0
+2 read 8 site 2 line 3 addr 4112 value 0
+3 write 8 site 0 line 3 addr 4096 value 0
+4 end line 4
+",
+        ..MAIN
+    },
     // Bounds are evaluated once, before the first turn.
     Case {
         text: "array a i64 8

@@ -145,6 +145,31 @@ words 0 0 0 0 0 0 0 0
 log t.swl records 0
 ",
     },
+    // An index outside comes before the full log, that of a store and that of a load.
+    Case {
+        text: "array a i64 8
+main {
+a[8] = 1
+}",
+        count: 4_194_304,
+        story: "line 3: Index
+words 0 0 0 0 0 0 0 0
+log t.swl records 0
+",
+        ..MAIN
+    },
+    Case {
+        text: "array a i64 8
+main {
+let x = a[8]
+}",
+        count: 4_194_304,
+        story: "line 3: Index
+words 0 0 0 0 0 0 0 0
+log t.swl records 0
+",
+        ..MAIN
+    },
 ];
 
 #[test]
