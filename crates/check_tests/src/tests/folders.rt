@@ -1,12 +1,12 @@
 //! Folders by hand: what `check` and `show` print of them, and the usage line.
 
 use call_fixtures::{
-    BARRIER, Case, EMPTY, END, ROOT, Rec, SHOW, Step, USAGE_LINE, all_pass, answers, lock, region,
-    store, unlock,
+    BARRIER, Case, EMPTY, END, Question, ROOT, Rec, SHOW, Step, USAGE_LINE, all_pass, answers,
+    lock, region, store, unlock,
 };
-use command_answer::{DONE, FOLDER_REFUSED, RACES, USAGE};
+use command_answer::{DONE, FOLDER_REFUSED, KERNEL_REFUSED, RACES, USAGE};
 use memory_environment::MemFolder;
-use std::alloc::Global;
+use std::alloc::{AllocError, Global};
 use std::marker::Send;
 use std::sync::Wait;
 use std::test::Fail;
@@ -73,6 +73,15 @@ macro_rules! eight_lanes {
     };
 }
 
+// A chunk is drawn under the mutex, which stays held.
+const DRAWN: &[Rec] = &[
+    lock!(5, 1),
+    (7, 0, 5, 0, 3),
+    store!(5, 4096),
+    unlock!(5, 1),
+    END,
+];
+
 const EXCLUDED: &[Case<'static>] = &[
     Case {
         tasks: &[
@@ -106,6 +115,11 @@ const EXCLUDED: &[Case<'static>] = &[
             (&["check", "d", "3"], RACES, RACE_5_6),
             (&["check", "d", "64"], RACES, RACE_5_6),
         ],
+        ..EMPTY
+    },
+    Case {
+        tasks: &[(&[], ROOT), (&[(0, 0, 2)], DRAWN), (&[(0, 1, 2)], DRAWN)],
+        asked: &[(&["check", "d", "2"], DONE, NO_RACE)],
         ..EMPTY
     },
     Case {
@@ -218,6 +232,8 @@ fn regions_in_turn_are_ordered(rt: HostRuntime) -> Result<(), Fail> {
 
 const UNEQUAL: &str = "bad log t-0.1.swl record 1: BarrierCount\n";
 
+const OPEN: &str = "bad log t-1.0.swl record 2: LockOpen\n";
+
 const REFUSED: &[Case<'static>] = &[
     Case {
         tasks: &[
@@ -228,6 +244,20 @@ const REFUSED: &[Case<'static>] = &[
         asked: &[
             (&["check", "d", "2"], FOLDER_REFUSED, UNEQUAL),
             (SHOW, FOLDER_REFUSED, UNEQUAL),
+        ],
+        ..EMPTY
+    },
+    // The lanes of the first region race, and the log of the second one is bad: no race is told.
+    Case {
+        tasks: &[
+            (&[], &[region!(1, 2), region!(2, 1), END]),
+            (&[(0, 0, 2)], &[store!(5, 4096), END]),
+            (&[(0, 1, 2)], &[store!(6, 4096), END]),
+            (&[(1, 0, 1)], &[lock!(7, 1), END]),
+        ],
+        asked: &[
+            (&["check", "d", "1"], FOLDER_REFUSED, OPEN),
+            (&["check", "d", "2"], FOLDER_REFUSED, OPEN),
         ],
         ..EMPTY
     },
@@ -338,15 +368,24 @@ const OTHER_WORDS: Case<'static> = Case {
         (&["check", "d", "0"], USAGE, USAGE_LINE),
         (&["check", "d", "01"], USAGE, USAGE_LINE),
         (&["check", "d", "65"], USAGE, USAGE_LINE),
+        (&["check", "d", "+1"], USAGE, USAGE_LINE),
+        (&["check", "d", "1x"], USAGE, USAGE_LINE),
+        // 2^64 + 1.
+        (&["check", "d", "18446744073709551617"], USAGE, USAGE_LINE),
         (&["check", "", "1"], USAGE, USAGE_LINE),
         (&["check", "d"], USAGE, USAGE_LINE),
         (&["check", "d", "1", "1"], USAGE, USAGE_LINE),
+        (&["show"], USAGE, USAGE_LINE),
         (&["show", ""], USAGE, USAGE_LINE),
         (&["show", "d", "e"], USAGE, USAGE_LINE),
         (&["run", "k", "d"], USAGE, USAGE_LINE),
+        (&["run", "k", "d", "24", "1"], USAGE, USAGE_LINE),
+        (&["run", "", "d", "24"], USAGE, USAGE_LINE),
+        (&["run", "k", "", "24"], USAGE, USAGE_LINE),
         (&["gen", "0", "1"], USAGE, USAGE_LINE),
         (&["gen", "100001", "1"], USAGE, USAGE_LINE),
         (&["gen", "04", "2"], USAGE, USAGE_LINE),
+        (&["gen", "4", "0"], USAGE, USAGE_LINE),
         (&["gen", "4", "65"], USAGE, USAGE_LINE),
         (&["gen", "4"], USAGE, USAGE_LINE),
         (&["gen", "4", "2", "1"], USAGE, USAGE_LINE),
@@ -359,15 +398,30 @@ const OTHER_WORDS: Case<'static> = Case {
         (&["explain", "d", "1", "4294967296"], USAGE, USAGE_LINE),
         (&["explain", "", "1", "1"], USAGE, USAGE_LINE),
         (&["explain", "d", "1"], USAGE, USAGE_LINE),
+        (&["explain", "d", "1", "1", "1"], USAGE, USAGE_LINE),
         (&["confirm", "d", "0", "1", "1", "1"], USAGE, USAGE_LINE),
+        (&["confirm", "d", "1", "0", "1", "1"], USAGE, USAGE_LINE),
+        (&["confirm", "d", "1", "1", "0", "1"], USAGE, USAGE_LINE),
+        (&["confirm", "d", "1", "1", "1", "0"], USAGE, USAGE_LINE),
+        (&["confirm", "d", "65537", "1", "1", "1"], USAGE, USAGE_LINE),
         (&["confirm", "d", "1", "1", "65537", "1"], USAGE, USAGE_LINE),
         (
             &["confirm", "d", "1", "4194305", "1", "1"],
             USAGE,
             USAGE_LINE,
         ),
+        (
+            &["confirm", "d", "1", "1", "1", "4194305"],
+            USAGE,
+            USAGE_LINE,
+        ),
         (&["confirm", "", "1", "1", "1", "1"], USAGE, USAGE_LINE),
         (&["confirm", "d", "1", "1", "1"], USAGE, USAGE_LINE),
+        (
+            &["confirm", "d", "1", "1", "1", "1", "1"],
+            USAGE,
+            USAGE_LINE,
+        ),
     ],
     ..EMPTY
 };
@@ -377,29 +431,59 @@ fn other_arguments_are_a_usage_fault(rt: HostRuntime) -> Result<(), Fail> {
     all_pass(&rt, rt.alloc(), &[OTHER_WORDS])
 }
 
-// What `check` answers for an empty folder whose name has so many bytes, and `upgrade` for one that such a folder is to come from.
+// What is answered where there is no file, with a name in the place of NAME.
+const NAMED: &[Question<'static>] = &[
+    (&["check", "NAME", "1"], FOLDER_REFUSED, "no index\n"),
+    (&["show", "NAME"], FOLDER_REFUSED, "no index\n"),
+    (&["upgrade", "NAME", "e"], FOLDER_REFUSED, "no index\n"),
+    (&["upgrade", "d", "NAME"], FOLDER_REFUSED, "no index\n"),
+    (&["explain", "NAME", "1", "1"], FOLDER_REFUSED, "no index\n"),
+    (
+        &["confirm", "NAME", "1", "1", "1", "1"],
+        FOLDER_REFUSED,
+        "no index\n",
+    ),
+    (&["run", "NAME", "d", "24"], KERNEL_REFUSED, "no kernel\n"),
+    (&["run", "k", "NAME", "24"], KERNEL_REFUSED, "no kernel\n"),
+    (&["live", "NAME", "d", "24"], KERNEL_REFUSED, "no kernel\n"),
+    (&["live", "k", "NAME", "24"], KERNEL_REFUSED, "no kernel\n"),
+    (&["replay", "NAME", "d"], KERNEL_REFUSED, "no kernel\n"),
+    (&["replay", "k", "NAME"], KERNEL_REFUSED, "no kernel\n"),
+    (&["certify", "NAME"], KERNEL_REFUSED, "no kernel\n"),
+];
+
+// The words, with this name in the place of NAME.
+fn named<'a>(alloc: Global, given: &[&'a str], name: &'a str) -> Result<Vec<&'a str>, AllocError> {
+    let mut words = Vec::new(alloc);
+    for word in given {
+        words.push(if *word == "NAME" { name } else { *word })?;
+    }
+    Ok(words)
+}
+
+// Fails with what is answered otherwise where the name has so many bytes: each row's own answer, or the usage line.
 fn answers_named<R: Threads + Wait + Sync + Copy + Send + 'static>(
     rt: &R,
     alloc: Global,
     count: usize,
-    status: u8,
-    text: &str,
+    is_name: bool,
 ) -> Result<(), Fail> {
     let name = "d".repeat(alloc, count)?;
     let mut folder = MemFolder::new(alloc)?;
-    answers(rt, alloc, &mut folder, &["check", &name, "1"], status, text)?;
-    answers(
-        rt,
-        alloc,
-        &mut folder,
-        &["upgrade", "d", &name],
-        status,
-        text,
-    )
+    for (given, status, text) in NAMED {
+        let words = named(alloc, given, &name)?;
+        let (status, text) = if is_name {
+            (*status, *text)
+        } else {
+            (USAGE, USAGE_LINE)
+        };
+        answers(rt, alloc, &mut folder, &words, status, text)?;
+    }
+    Ok(())
 }
 
 #[test]
 fn a_name_has_at_most_1024_bytes(rt: HostRuntime) -> Result<(), Fail> {
-    answers_named(&rt, rt.alloc(), 1024, FOLDER_REFUSED, "no index\n")?;
-    answers_named(&rt, rt.alloc(), 1025, USAGE, USAGE_LINE)
+    answers_named(&rt, rt.alloc(), 1024, true)?;
+    answers_named(&rt, rt.alloc(), 1025, false)
 }

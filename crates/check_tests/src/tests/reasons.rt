@@ -45,6 +45,19 @@ const NINE_LOCKS: &[Rec] = &[
     END,
 ];
 
+// The same without its End.
+const NINE_UNENDED: &[Rec] = &[
+    lock!(1, 0),
+    lock!(1, 1),
+    lock!(1, 2),
+    lock!(1, 3),
+    lock!(1, 4),
+    lock!(1, 5),
+    lock!(1, 6),
+    lock!(1, 7),
+    lock!(1, 8),
+];
+
 const FIELDS: &[Case<'static>] = &[
     root_refused!(&[(10, 0, 1, 0, 0), END], "bad log t.swl record 1: Kind\n"),
     root_refused!(&[(1, 3, 1, 4096, 0), END], "bad log t.swl record 1: Size\n"),
@@ -69,6 +82,16 @@ const RULES: &[Case<'static>] = &[
         &[(2, 8, 1, 4096, 0)],
         "bad log t.swl record 1: EndMissing\n"
     ),
+    // A last record that isn't an End, and that breaks a rule which is told after this.
+    root_refused!(&[BARRIER], "bad log t.swl record 1: EndMissing\n"),
+    root_refused!(&[unlock!(1, 1)], "bad log t.swl record 1: EndMissing\n"),
+    root_refused!(&[region!(1, 1)], "bad log t.swl record 1: EndMissing\n"),
+    root_refused!(
+        &[lock!(1, 1), region!(2, 1)],
+        "bad log t.swl record 2: EndMissing\n"
+    ),
+    root_refused!(NINE_UNENDED, "bad log t.swl record 9: EndMissing\n"),
+    // With an End behind them these rules are told.
     root_refused!(
         &[lock!(1, 1), lock!(1, 1), END],
         "bad log t.swl record 2: LockTwice\n"

@@ -68,6 +68,11 @@ const WITNESSES: &[Case<'static>] = &[
                 DONE,
                 "no race\n",
             ),
+            (
+                &["confirm", "d", "65536", "4194304", "1", "1"],
+                DONE,
+                "no race\n",
+            ),
             (&["explain", "d", "1", "3"], DONE, "no race 1 3\n"),
             (
                 &["explain", "d", "3", "4294967295"],
