@@ -63,6 +63,12 @@ const VERDICTS: &[Verdict<'static>] = &[
         UNCERTAIN,
         "uncertain: stopped t-0.1.swl line 4: DivZero\n",
     ),
+    // A stop before the barrier comes before that of a smaller lane behind it.
+    (
+        "array a i64 2\nmain { parallel 2 {\nif tid == 1 {\na[9] = 1 }\nbarrier\na[9] = 1\n} }\n",
+        UNCERTAIN,
+        "uncertain: stopped t-0.1.swl line 4: Index\n",
+    ),
     // Races in tasks of two regions below one another.
     (
         "array a i64 4\nmain { parallel 2 {\nif tid == 0 { parallel 2 {\na[tid] = 1 } }\nif tid == 1 { a[1] = 2 }\n} }\n",
