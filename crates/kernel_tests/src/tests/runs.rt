@@ -199,20 +199,29 @@ fn sums_are_signed(rt: HostRuntime) -> Result<(), Fail> {
     all_pass(&rt, rt.alloc(), &[SIGNED])
 }
 
-const RUN_AGAIN: Case<'static> = Case {
-    held: &[("k", COUNT), ("again", SHIFT)],
-    asked: &[
-        (RUN, DONE, COUNTED),
-        (&["run", "again", "d", "24"], INDEX_THERE, "index exists\n"),
-    ],
-    left: &[(INDEX, Some(152)), (LANE_0, Some(248))],
-    sealed: &["d/t.swl", LANE_0, "d/t-0.1.swl"],
-    ..EMPTY
-};
+const INDEXED: &[Case<'static>] = &[
+    Case {
+        held: &[("k", COUNT), ("again", SHIFT)],
+        asked: &[
+            (RUN, DONE, COUNTED),
+            (&["run", "again", "d", "24"], INDEX_THERE, "index exists\n"),
+        ],
+        left: &[(INDEX, Some(152)), (LANE_0, Some(248))],
+        sealed: &["d/t.swl", LANE_0, "d/t-0.1.swl"],
+        ..EMPTY
+    },
+    // An empty file is an index, too.
+    Case {
+        held: &[("k", COUNT), (INDEX, "")],
+        asked: &[(RUN, INDEX_THERE, "index exists\n")],
+        left: &[(INDEX, Some(0)), ("d/t.swl", None), (LANE_0, None)],
+        ..EMPTY
+    },
+];
 
 #[test]
 fn an_index_is_kept(rt: HostRuntime) -> Result<(), Fail> {
-    all_pass(&rt, rt.alloc(), &[RUN_AGAIN])
+    all_pass(&rt, rt.alloc(), INDEXED)
 }
 
 // Lane 0 has four Writes and waits at its Barrier, or it stops after a Read.
@@ -275,6 +284,19 @@ const NO_KERNELS: &[Case<'static>] = &[
         held: &[("k", "")],
         asked: &[(RUN, KERNEL_REFUSED, "kernel line 1: Syntax\n")],
         left: &[("d/t.swl", None)],
+        ..EMPTY
+    },
+    // The kernel is refused before anybody asks for the index.
+    Case {
+        held: &[("k", "no kernel at all"), (INDEX, "")],
+        asked: &[(RUN, KERNEL_REFUSED, "kernel line 1: Syntax\n")],
+        left: &[(INDEX, Some(0)), ("d/t.swl", None)],
+        ..EMPTY
+    },
+    Case {
+        held: &[(INDEX, "")],
+        asked: &[(RUN, KERNEL_REFUSED, "no kernel\n")],
+        left: &[(INDEX, Some(0)), ("d/t.swl", None)],
         ..EMPTY
     },
     // A barrier in a loop of the lane.
