@@ -1,7 +1,7 @@
 //! Kernels that stop: which stop is told, and what is left of the run.
 
 use call_fixtures::{Case, EMPTY, RUN, all_pass, passes_past};
-use command_answer::{DONE, KERNEL_STOPPED, WRITE_FAULT};
+use command_answer::{DONE, FOLDER_REFUSED, KERNEL_STOPPED, WRITE_FAULT};
 use std::test::Fail;
 use sw_base::Path;
 
@@ -206,6 +206,44 @@ fn a_run_has_65473_tasks(rt: HostRuntime) -> Result<(), Fail> {
     all_pass(&rt, rt.alloc(), &[MOST])
 }
 
+// The root, 1,023 regions of 64 lanes, and one of 63. The root has a record for each region and an End, and each lane an End.
+const WHOLE: Case<'static> = Case {
+    held: &[(
+        "k",
+        "main {\nloop k in 0 .. 1023 {\nparallel 64 { }\n}\nparallel 63 { }\n}\n",
+    )],
+    asked: &[(RUN, DONE, "tasks 65536\nrecords 66560\n")],
+    ..EMPTY
+};
+
+#[test]
+fn a_run_has_65536_tasks(rt: HostRuntime) -> Result<(), Fail> {
+    all_pass(&rt, rt.alloc(), &[WHOLE])
+}
+
+// Each of the 128 lanes has 1,000 barrier intervals with a store, and a record for each of these, for its barrier, and for its end. So
+// lane 1 of the second region may have 536.
+const PARTED: Case<'static> = Case {
+    held: &[(
+        "k",
+        "array a i64 64\nmain {\nloop r in 0 .. 2 {\nparallel 64 {\nloop i in 0 .. 1000 {\na[tid] = i\nbarrier\n} } } }\n",
+    )],
+    asked: &[
+        (RUN, DONE, "tasks 129\nrecords 256131\nsum a 63936\n"),
+        (
+            &["check", "d", "2"],
+            FOLDER_REFUSED,
+            "too many segments at t-1.1.swl record 1073\n",
+        ),
+    ],
+    ..EMPTY
+};
+
+#[test]
+fn a_run_may_have_too_many_segments(rt: HostRuntime) -> Result<(), Fail> {
+    all_pass(&rt, rt.alloc(), &[PARTED])
+}
+
 // A lane that puts so many records, does this then, and stops so.
 macro_rules! full {
     ($records:literal, $last:literal, $text:expr) => {
@@ -230,6 +268,8 @@ const SEVENTH: &str = "stopped t-0.0.swl line 7: LogFull\n";
 
 const EIGHTH: &str = "stopped t-0.0.swl line 8: LogFull\n";
 
+const OUTSIDE: &str = "stopped t-0.0.swl line 7: Index\n";
+
 const FULL: &[Case<'static>] = &[
     full!("4194304", "let x = a[0]", SEVENTH),
     full!("4194304", "a[0] = 1", SEVENTH),
@@ -239,6 +279,9 @@ const FULL: &[Case<'static>] = &[
     full!("4194304", "for j in 0 .. 1 dynamic { }", SEVENTH),
     full!("4194304", "barrier", SEVENTH),
     full!("4194304", "", EIGHTH),
+    // An index outside comes before the full log.
+    full!("4194304", "a[1] = 1", OUTSIDE),
+    full!("4194304", "let x = a[1]", OUTSIDE),
 ];
 
 #[test]
