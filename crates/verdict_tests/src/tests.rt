@@ -110,11 +110,23 @@ const LARGE: &[Verdict<'static>] = &[
         UNCERTAIN,
         "uncertain: stopped t.swl line 3: Tasks\n",
     ),
+    // As many tasks as there may be: the root, 1,023 times 64 lanes, and 63. The root has a record for each region and an End.
+    (
+        "main {\nloop k in 0 .. 1023 {\nparallel 64 { }\n}\nparallel 63 { }\n}\n",
+        DONE,
+        "certain\ntasks 65536\nrecords 66560\n",
+    ),
     // More barrier intervals than are compared, 1,000 of each lane.
     (
         "array a i64 64\nmain {\nloop r in 0 .. 2 {\nparallel 64 {\nloop i in 0 .. 1000 {\na[tid] = i\nbarrier\n} } } }\n",
         UNCERTAIN,
         "uncertain: segments at t-1.1.swl record 1073\n",
+    ),
+    // Two lanes that race come before them, with an interval each. No race is told.
+    (
+        "array a i64 64\nmain {\nparallel 2 {\na[0] = 1\n}\nloop r in 0 .. 2 {\nparallel 64 {\nloop i in 0 .. 1000 {\na[tid] = i\nbarrier\n} } } }\n",
+        UNCERTAIN,
+        "uncertain: segments at t-2.1.swl record 1069\n",
     ),
 ];
 
