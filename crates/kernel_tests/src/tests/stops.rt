@@ -221,19 +221,19 @@ fn a_run_has_65536_tasks(rt: HostRuntime) -> Result<(), Fail> {
     all_pass(&rt, rt.alloc(), &[WHOLE])
 }
 
-// Each of the 128 lanes has 1,000 barrier intervals with a store, and a record for each of these, for its barrier, and for its end. So
-// lane 1 of the second region may have 536.
+// Each of four lanes, one after another, has 20,000 barrier intervals with a store, and a record for each of these, for its barrier, and for
+// its end. So the last one may have 5,536.
 const PARTED: Case<'static> = Case {
     held: &[(
         "k",
-        "array a i64 64\nmain {\nloop r in 0 .. 2 {\nparallel 64 {\nloop i in 0 .. 1000 {\na[tid] = i\nbarrier\n} } } }\n",
+        "array a i64 1\nmain {\nloop r in 0 .. 4 {\nparallel 1 {\nloop i in 0 .. 20000 {\na[0] = i\nbarrier\n} } } }\n",
     )],
     asked: &[
-        (RUN, DONE, "tasks 129\nrecords 256131\nsum a 63936\n"),
+        (RUN, DONE, "tasks 5\nrecords 160009\nsum a 19999\n"),
         (
             &["check", "d", "2"],
             FOLDER_REFUSED,
-            "too many segments at t-1.1.swl record 1073\n",
+            "too many segments at t-3.0.swl record 11073\n",
         ),
     ],
     ..EMPTY
