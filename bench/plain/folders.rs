@@ -4,6 +4,7 @@
 //!
 //!     rustc -O -o /tmp/folders bench/plain/folders.rs
 //!     /tmp/folders SWORD SEED COUNT          compares so many folders, made in a memory file system, a third of them of the first format
+//!     /tmp/folders SWORD SEED COUNT one      the same with one command a folder, for more folders in the same time
 //!     /tmp/folders WORD DIR ..               answers check, show, explain or confirm itself
 //!     /tmp/folders make DIR SEED             makes one such folder
 use std::collections::{BTreeSet, HashMap};
@@ -715,7 +716,7 @@ fn new_folder(random: &mut Random) -> Files {
     new
 }
 
-fn compare(sword: &str, seed: u64, count: u64) -> bool {
+fn compare(sword: &str, seed: u64, count: u64, is_one: bool) -> bool {
     let (place, new_place) = (Place::new("old"), Place::new("new"));
     let mut random = Random::new(seed);
     let (mut seen, mut calls): (std::collections::BTreeMap<(String, i32), u64>, u64) = Default::default();
@@ -738,7 +739,12 @@ fn compare(sword: &str, seed: u64, count: u64) -> bool {
         write_folder(&place.0, &files);
         let mut is_well = true;
         if format.last_kind == UPDATE {
-            for (words, due) in asked(&mut random, &files, place.name()) {
+            let mut questions = asked(&mut random, &files, place.name());
+            if is_one {
+                let at = random.below(questions.len() as u64) as usize;
+                questions = vec![questions.swap_remove(at)];
+            }
+            for (words, due) in questions {
                 is_well &= tell(number, &words.iter().map(String::as_str).collect::<Vec<&str>>(), &due);
             }
         }
@@ -801,7 +807,8 @@ fn main() {
     }
     match words[..] {
         ["make", folder, seed] => write_folder(Path::new(folder), &random_folder(&mut Random::new(seed.parse().unwrap()), SECOND)),
-        [sword, seed, count] => process::exit(i32::from(!compare(sword, seed.parse().unwrap(), count.parse().unwrap()))),
+        [sword, seed, count] => process::exit(i32::from(!compare(sword, seed.parse().unwrap(), count.parse().unwrap(), false))),
+        [sword, seed, count, "one"] => process::exit(i32::from(!compare(sword, seed.parse().unwrap(), count.parse().unwrap(), true))),
         _ => process::exit(2),
     }
 }
