@@ -20,11 +20,12 @@ use Rattle.shared_words.specs.Handles.{HandValue}
 use Rattle.shared_words.specs.declared.view.View.{View}
 use Rattle.execution_model.specs.Runs.{RunsRegions}
 use Rattle.lane_runner.specs.declared.stop.Halt.{Halt}
-use Rattle.lane_runner.specs.declared.stop.Halt.TheVariants.{DivZero}
+use Rattle.lane_runner.specs.declared.stop.Stop.{Stop}
+use Rattle.lane_runner.specs.declared.stop.Stop.TheVariants.{DivZero}
 use Rattle.lane_runner.specs.World.{WorldValue}
 use Rattle.shared_words.specs.declared.share.Share.{Share}
 use Rattle.lane_runner.proofs.Drawing.{draws_left}
-use Rattle.lane_runner.specs.Going.{Progress, log_of, CanGo, ClosesAll, MadePast, Made, Goes}
+use Rattle.lane_runner.specs.Going.{Progress, log_of, CanGo, ClosesAll, MadePast, Made, Goes, lane_answer}
 use Rattle.lane_runner.proofs.Working.{done_none}
 use Rattle.lane_runner.proofs.Releasing.{released_none}
 use Rattle.lane_runner.proofs.Following.{goes_stop, goes_then, goes_same}
@@ -134,17 +135,17 @@ module _ (w : WorldValue) (at : Site) (slots : List ℤ) where
           after_first (Err why)
           (goes_stop w (value at right) (λ (y : ℤ) (s : State). operated (applied op x y) line s) slots slots mid new why (λ y s. kept-operated Grows grows-plain (applied op x y) line s) goes)
 
-      operates : (y : ℤ) (o : Option ℤ) → CanGo w new → Goes w (operated o line) slots slots new new (ok_or o (DivZero line))
+      operates : (y : ℤ) (o : Option ℤ) → CanGo w new → Goes w (operated o line) slots slots new new (lane_answer (ok_or o (DivZero line)))
       operates y None can =
           made_still w (operated None line) slots new (Halted model.DivZero line) can (makes-stays (operated None line) slots (log_limit - new.buffer.count) (Halted model.DivZero line) (λ s same full. refl))
       operates y (Some v) can =
           made_still w (operated (Some v) line) slots new (Returned v) can (makes-stays (operated (Some v) line) slots (log_limit - new.buffer.count) (Returned v) (λ s same full. refl))
 
-      pub binary_goes : (y : ℤ) (r : Result ℤ Halt) → CanGo w mid → r ≡ ok_or (applied op x y) (DivZero line) → Made w (value at right) slots slots mid new (Returned y)
-          → Goes w (value at (tree.Binary op line left right)) slots slots old new r
+      pub binary_goes : (y : ℤ) (r : Result ℤ Stop) → CanGo w mid → r ≡ ok_or (applied op x y) (DivZero line) → Made w (value at right) slots slots mid new (Returned y)
+          → Goes w (value at (tree.Binary op line left right)) slots slots old new (lane_answer r)
       unfolding after_left
       binary_goes y r can is made_right =
-          after_first r
-          (goes_then w (value at right) (λ (z : ℤ) (s : State). operated (applied op x z) line s) slots slots slots mid new new y made_right r
-          (subst (λ (q : Result ℤ Halt). Goes w (operated (applied op x y) line) slots slots new new q) (sym is)
+          after_first (lane_answer r)
+          (goes_then w (value at right) (λ (z : ℤ) (s : State). operated (applied op x z) line s) slots slots slots mid new new y made_right (lane_answer r)
+          (subst (λ (q : Result ℤ Stop). Goes w (operated (applied op x y) line) slots slots new new (lane_answer q)) (sym is)
           (operates y (applied op x y) (can_follow w (value at right) slots slots mid new (Returned y) can made_right))))

@@ -29,6 +29,7 @@ use Rattle.event_buffer.specs.declared.fault.BufferFault.TheVariants as fault
 use Rattle.lane_runner.specs.declared.stop.Halt.{Halt}
 use Rattle.lane_runner.specs.declared.stop.Stop.{Stop}
 use Rattle.lane_runner.specs.declared.stop.Halt.TheVariants as halt
+use Rattle.lane_runner.specs.declared.stop.Stop.TheVariants as stop
 use Rattle.lane_runner.specs.Drawing.{Tally, HasDrawn}
 use Rattle.lane_runner.specs.Handed.{Entry, HandsOn, MaybeStop, AreFew, place_of, task_limit}
 use Rattle.lane_runner.specs.Stopping.{HaveEnded, LastIsRegion, LastIsRegionAt, StopsAtLast}
@@ -223,6 +224,19 @@ pub record HasRoomFor (old new : Progress) : Type 0 where
 pub record Refused (trouble : Trouble) (new : Progress) : Type 0 where
   pub refused : (trouble ≡ Memory → ⊥) → new.buffer.refused ≡ Some trouble
 
+-- a lane whose own task stops so doesn't go on
+abbrev pub halt_for : Stop → Halt
+halt_for (stop.DivZero line) = halt.DivZero line
+halt_for (stop.Index line) = halt.Index line
+halt_for (stop.LogFull line) = halt.LogFull line
+halt_for (stop.Tasks line) = halt.Tasks line
+halt_for (stop.Trouble trouble) = halt.Trouble trouble
+
+-- what that is of a lane, where a part of a statement is answered by the task's stop
+abbrev pub lane_answer : {A : Type 0} → Result A Stop → Result A Halt
+lane_answer (Ok v) = Ok v
+lane_answer (Err why) = Err (halt_for why)
+
 -- How the execution of a part ends, by what is answered: past so many barriers of the team where it ends without a stop, and else past
 -- none.
 abbrev pub GoesPast : {A : Type 0} → ℕ → WorldValue → (State → Outcome A) → List ℤ → List ℤ → Progress → Progress → Result A Halt → Type 0
@@ -248,9 +262,9 @@ pub record Takes (event : Record) (after : View) (old new : Progress) : Type 0 w
   pub done : new.done ≡ old.done
 
 -- the stop of a record that has no place
-abbrev pub stop_for : BufferFault → ℕ → Halt
-stop_for fault.LogFull line = halt.LogFull line
-stop_for (fault.Trouble trouble) line = halt.Trouble trouble
+abbrev pub stop_for : BufferFault → ℕ → Stop
+stop_for fault.LogFull line = stop.LogFull line
+stop_for (fault.Trouble trouble) line = stop.Trouble trouble
 
 -- room was made for one more record, or the log is full at its line, or refused
 abbrev pub MakesRoom : ℕ → Progress → Progress → Result (Unit {0}) Halt → Type 0

@@ -36,3 +36,20 @@ pub enum Halt {
     /// No memory was found, or a call on its log failed.
     Trouble(Trouble),
 }
+
+impl From<Stop> for Halt {
+    ghost use Rattle.std.specs.Prelude.{◌≡◌};
+    ghost use Rattle.lane_runner.specs.Going.{halt_for};
+
+    ghost from_gives = { λ stop halt. halt ≡ halt_for stop };
+
+    fn from(stop: Stop) -> Self {
+        match stop {
+            Stop::DivZero { line } => Halt::DivZero { line },
+            Stop::Index { line } => Halt::Index { line },
+            Stop::LogFull { line } => Halt::LogFull { line },
+            Stop::Tasks { line } => Halt::Tasks { line },
+            Stop::Trouble(trouble) => Halt::Trouble(trouble),
+        }
+    }
+}

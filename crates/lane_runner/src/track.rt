@@ -7,7 +7,7 @@ ghost use Rattle.kernel_model.specs.Changing.{kind_of};
 ghost use Rattle.kernel_model.specs.State.{put, event};
 ghost use Rattle.log_format.specs.declared.record.Kind.TheVariants as kind;
 ghost use Rattle.lane_runner.specs.World.{WorldValue};
-ghost use Rattle.lane_runner.specs.Going.{CanGo, CanPut, Goes, GoesPast, IsWonLast, IsSameLog, MakesRoom, site, TakesOrHalts, stop_for};
+ghost use Rattle.lane_runner.specs.Going.{CanGo, CanPut, Goes, GoesPast, IsWonLast, IsSameLog, MakesRoom, lane_answer, site, TakesOrHalts, stop_for};
 ghost use Rattle.shared_words.specs.Handles.{Belongs, with_view};
 ghost use Rattle.kernel_syntax.specs.Program.{team_of, code_of};
 ghost use Rattle.kernel_syntax.specs.Tree as tree;
@@ -64,12 +64,12 @@ impl<L: Log> Model for Track<L> {
 }
 
 // Why a record of this line has no place.
-fn stop_for(fault: BufferFault, line: u32) -> Halt
+fn stop_for(fault: BufferFault, line: u32) -> Stop
     ensures { result ≡ stop_for fault line }
 {
     match fault {
-        BufferFault::LogFull => Halt::LogFull { line },
-        BufferFault::Trouble(trouble) => Halt::Trouble(trouble),
+        BufferFault::LogFull => Stop::LogFull { line },
+        BufferFault::Trouble(trouble) => Stop::Trouble(trouble),
     }
 }
 
@@ -166,9 +166,9 @@ impl<L: Log> Track<L> {
         rt: &R,
         alloc: Global,
         line: u32,
-    ) -> Result<(), Halt>
+    ) -> Result<(), Stop>
         requires { self.old.buffer.refused ≡ None }
-        ensures room { MakesRoom line self.old self.new result }
+        ensures room { MakesRoom line self.old self.new (lane_answer result) }
         ensures log { IsSameLog self.old.buffer self.new.buffer }
         ensures tally { self.new.tally ≡ self.old.tally }
     {
@@ -187,11 +187,11 @@ impl<L: Log> Track<L> {
         element: &Element,
         line: u32,
         site: u16,
-    ) -> Result<i64, Halt>
+    ) -> Result<i64, Stop>
         requires can { CanGo world.now self.old }
         requires stands { StandsIn world.now element.now }
         requires line { 1 ≤ line }
-        ensures goes { (slots : List ℤ) → Goes world.now (read (meant element.now) site line) slots slots self.old self.new result }
+        ensures goes { (slots : List ℤ) → Goes world.now (read (meant element.now) site line) slots slots self.old self.new (lane_answer result) }
         ensures log { IsSameLog self.old.buffer self.new.buffer }
         ensures tally { self.new.tally ≡ self.old.tally }
     {

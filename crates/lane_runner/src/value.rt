@@ -5,9 +5,9 @@ ghost use Rattle.kernel_syntax.specs.Bounds.{IsBoundedTerm, IsPlace};
 ghost use Rattle.kernel_syntax.specs.Program.{term_of};
 ghost use Rattle.kernel_model.specs.Value.{element_at, loaded, value};
 ghost use Rattle.lane_runner.specs.Compound.{IsCompound};
-ghost use Rattle.lane_runner.specs.Going.{CanGo, Goes, IsSameLog, site};
+ghost use Rattle.lane_runner.specs.Going.{CanGo, Goes, IsSameLog, lane_answer, site};
 
-use crate::stop::Halt;
+use crate::stop::Stop;
 use crate::track::Track;
 use crate::world::World;
 use kernel_model::negate;
@@ -19,8 +19,7 @@ use std::thread::Threads;
 use sw_base::Log;
 use task_place::Locals;
 
-// Reads an element, after its index. It stands apart, so that `compound` needs no room for what it keeps.
-#[inline(never)]
+// Reads an element, after its index.
 fn load<L: Log, R: Threads + Wait + Copy + Send + 'static>(
     rt: &R,
     alloc: Global,
@@ -30,24 +29,24 @@ fn load<L: Log, R: Threads + Wait + Copy + Send + 'static>(
     index: i64,
     line: u32,
     place: u16,
-) -> Result<i64, Halt>
+) -> Result<i64, Stop>
     requires can { CanGo world.now track.old }
     requires bounded { IsPlace line place }
-    ensures goes { (slots : List ℤ) → Goes world.now (loaded (element_at world.now.arrays array index) line place) slots slots track.old track.new result }
+    ensures goes { (slots : List ℤ) → Goes world.now (loaded (element_at world.now.arrays array index) line place) slots slots track.old track.new (lane_answer result) }
     ensures log { IsSameLog track.old.buffer track.new.buffer }
     ensures tally { track.new.tally ≡ track.old.tally }
 {
     let Some(element) = world.element(array, index) else {
-        return Err(Halt::Index { line });
+        return Err(Stop::Index { line });
     };
     track.read(rt, alloc, world, &element, line, place)
 }
 
 /// The operation on two values, or the stop of a zero divisor.
-fn operate(op: Op, line: u32, left: i64, right: i64) -> Result<i64, Halt>
-    ensures { result ≡ ok_or (applied op left right) (Halt.DivZero line) }
+fn operate(op: Op, line: u32, left: i64, right: i64) -> Result<i64, Stop>
+    ensures { result ≡ ok_or (applied op left right) (Stop.DivZero line) }
 {
-    apply(op, left, right).ok_or(Halt::DivZero { line })
+    apply(op, left, right).ok_or(Stop::DivZero { line })
 }
 
 // The value of an expression that loads or computes. It stands apart, so that `value` needs no room for what it keeps.
@@ -60,11 +59,11 @@ fn compound<L: Log, R: Threads + Wait + Copy + Send + 'static>(
     locals: &Locals,
     track: &mut Track<L>,
     expr: &Expr,
-) -> Result<i64, Halt>
+) -> Result<i64, Stop>
     requires compound { IsCompound (term_of expr.now) }
     requires can { CanGo world.now track.old }
     requires bounded { IsBoundedTerm (term_of expr.now) }
-    ensures goes { Goes world.now (value (site world.now) (term_of expr.now)) locals.now.slots.items locals.now.slots.items track.old track.new result }
+    ensures goes { Goes world.now (value (site world.now) (term_of expr.now)) locals.now.slots.items locals.now.slots.items track.old track.new (lane_answer result) }
     ensures log { IsSameLog track.old.buffer track.new.buffer }
     ensures tally { track.new.tally ≡ track.old.tally }
 {
@@ -108,10 +107,10 @@ pub fn value<L: Log, R: Threads + Wait + Copy + Send + 'static>(
     locals: &Locals,
     track: &mut Track<L>,
     expr: &Expr,
-) -> Result<i64, Halt>
+) -> Result<i64, Stop>
     requires can { CanGo world.now track.old }
     requires bounded { IsBoundedTerm (term_of expr.now) }
-    ensures goes { Goes world.now (value (site world.now) (term_of expr.now)) locals.now.slots.items locals.now.slots.items track.old track.new result }
+    ensures goes { Goes world.now (value (site world.now) (term_of expr.now)) locals.now.slots.items locals.now.slots.items track.old track.new (lane_answer result) }
     ensures log { IsSameLog track.old.buffer track.new.buffer }
     ensures tally { track.new.tally ≡ track.old.tally }
 {

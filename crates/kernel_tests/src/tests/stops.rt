@@ -195,17 +195,6 @@ fn a_run_has_no_65537_tasks(rt: HostRuntime) -> Result<(), Fail> {
     all_pass(&rt, rt.alloc(), &[TOO_MANY])
 }
 
-const MOST: Case<'static> = Case {
-    held: &[("k", "main {\nloop k in 0 .. 1023 {\nparallel 64 { }\n} }\n")],
-    asked: &[(RUN, DONE, "tasks 65473\nrecords 66496\n")],
-    ..EMPTY
-};
-
-#[test]
-fn a_run_has_65473_tasks(rt: HostRuntime) -> Result<(), Fail> {
-    all_pass(&rt, rt.alloc(), &[MOST])
-}
-
 // The root, 1,023 regions of 64 lanes, and one of 63. The root has a record for each region and an End, and each lane an End.
 const WHOLE: Case<'static> = Case {
     held: &[(

@@ -11,8 +11,8 @@ use Rattle.kernel_model.specs.Value.{element_at, loaded, value}
 use Rattle.kernel_model.specs.Trace.{log_limit}
 use Rattle.kernel_model.specs.Effect.{Returned}
 use Rattle.kernel_model.proofs.Effects.{makes-Number, makes-Slot, makes-Tid, makes-Span}
-use Rattle.lane_runner.specs.declared.stop.Halt.TheVariants.{DivZero}
-use Rattle.lane_runner.specs.Going.{Goes, Made, site}
+use Rattle.lane_runner.specs.declared.stop.Stop.TheVariants.{DivZero}
+use Rattle.lane_runner.specs.Going.{Goes, Made, site, halt_for, lane_answer}
 use Rattle.lane_runner.proofs.Values.{made_still, can_follow, load_stops, load_goes, neg_stops, neg_goes, left_stops, right_stops, binary_goes}
 use Rattle.lane_runner.proofs.value.+valuing.Goals as goal
 
@@ -20,34 +20,34 @@ pub compound-returns-in_err-at-in-Load-clause-goes : goal.compound-returns-in_er
 compound-returns-in_err-at-in-Load-clause-goes g t c =
     let p = err_from_is_err_and c.from_residual.result c.from_residual.ensures.1 in
     rw (p.1, p.2)
-    (subst (λ (e : Expr). Goes c.args.world.now (value (site c.args.world.now) (term_of e)) c.args.locals.now.slots.items c.args.locals.now.slots.items c.args.track.now c.value.new.track (Err c.in_err-at-in-Load.field-0.0)) (sym c.in-Load.is)
-    (load_stops c.args.world.now (site c.args.world.now) c.args.locals.now.slots.items c.in-Load.array (term_of c.in-Load.index.value) c.in-Load.line c.in-Load.site c.args.track.now c.value.new.track c.in_err-at-in-Load.field-0.0
-    (subst (λ (x : Expr). Goes c.args.world.now (value (site c.args.world.now) (term_of x)) c.args.locals.now.slots.items c.args.locals.now.slots.items c.args.track.now c.value.new.track (Err c.in_err-at-in-Load.field-0.0)) c.deref.ensures c.in_err-at-in-Load.ensures.goes)))
+    (subst (λ (e : Expr). Goes c.args.world.now (value (site c.args.world.now) (term_of e)) c.args.locals.now.slots.items c.args.locals.now.slots.items c.args.track.now c.value.new.track (Err (halt_for c.in_err-at-in-Load.field-0.0))) (sym c.in-Load.is)
+    (load_stops c.args.world.now (site c.args.world.now) c.args.locals.now.slots.items c.in-Load.array (term_of c.in-Load.index.value) c.in-Load.line c.in-Load.site c.args.track.now c.value.new.track (halt_for c.in_err-at-in-Load.field-0.0)
+    (subst (λ (x : Expr). Goes c.args.world.now (value (site c.args.world.now) (term_of x)) c.args.locals.now.slots.items c.args.locals.now.slots.items c.args.track.now c.value.new.track (Err (halt_for c.in_err-at-in-Load.field-0.0))) c.deref.ensures c.in_err-at-in-Load.ensures.goes)))
 
 pub compound-returns-in_err-negated-in-Neg-clause-goes : goal.compound-returns-in_err-negated-in-Neg-clause-goes
 compound-returns-in_err-negated-in-Neg-clause-goes g t c =
     let p = err_from_is_err_and c.from_residual-in_err-negated-in-Neg.result c.from_residual-in_err-negated-in-Neg.ensures.1 in
     rw (p.1, p.2)
-    (subst (λ (e : Expr). Goes c.args.world.now (value (site c.args.world.now) (term_of e)) c.args.locals.now.slots.items c.args.locals.now.slots.items c.args.track.now c.value-in-Neg.new.track (Err c.in_err-negated-in-Neg.field-0.0)) (sym c.in-Neg.is)
-    (neg_stops c.args.world.now (site c.args.world.now) c.args.locals.now.slots.items (term_of c.in-Neg.operand.value) c.args.track.now c.value-in-Neg.new.track c.in_err-negated-in-Neg.field-0.0
-    (subst (λ (x : Expr). Goes c.args.world.now (value (site c.args.world.now) (term_of x)) c.args.locals.now.slots.items c.args.locals.now.slots.items c.args.track.now c.value-in-Neg.new.track (Err c.in_err-negated-in-Neg.field-0.0)) c.deref-in-Neg.ensures c.in_err-negated-in-Neg.ensures.goes)))
+    (subst (λ (e : Expr). Goes c.args.world.now (value (site c.args.world.now) (term_of e)) c.args.locals.now.slots.items c.args.locals.now.slots.items c.args.track.now c.value-in-Neg.new.track (Err (halt_for c.in_err-negated-in-Neg.field-0.0))) (sym c.in-Neg.is)
+    (neg_stops c.args.world.now (site c.args.world.now) c.args.locals.now.slots.items (term_of c.in-Neg.operand.value) c.args.track.now c.value-in-Neg.new.track (halt_for c.in_err-negated-in-Neg.field-0.0)
+    (subst (λ (x : Expr). Goes c.args.world.now (value (site c.args.world.now) (term_of x)) c.args.locals.now.slots.items c.args.locals.now.slots.items c.args.track.now c.value-in-Neg.new.track (Err (halt_for c.in_err-negated-in-Neg.field-0.0))) c.deref-in-Neg.ensures c.in_err-negated-in-Neg.ensures.goes)))
 
 pub compound-returns-in_err-first-in-Binary-clause-goes : goal.compound-returns-in_err-first-in-Binary-clause-goes
 compound-returns-in_err-first-in-Binary-clause-goes g t c =
     let p = err_from_is_err_and c.from_residual-in_err-first-in-Binary.result c.from_residual-in_err-first-in-Binary.ensures.1 in
     rw (p.1, p.2)
-    (subst (λ (e : Expr). Goes c.args.world.now (value (site c.args.world.now) (term_of e)) c.args.locals.now.slots.items c.args.locals.now.slots.items c.args.track.now c.value-in-Binary.new.track (Err c.in_err-first-in-Binary.field-0.0)) (sym c.in-Binary.is)
-    (left_stops c.args.world.now (site c.args.world.now) c.args.locals.now.slots.items c.in-Binary.op c.in-Binary.line (term_of c.in-Binary.left.value) (term_of c.in-Binary.right.value) c.args.track.now c.value-in-Binary.new.track c.in_err-first-in-Binary.field-0.0
-    (subst (λ (x : Expr). Goes c.args.world.now (value (site c.args.world.now) (term_of x)) c.args.locals.now.slots.items c.args.locals.now.slots.items c.args.track.now c.value-in-Binary.new.track (Err c.in_err-first-in-Binary.field-0.0)) c.deref-in-Binary.ensures c.in_err-first-in-Binary.ensures.goes)))
+    (subst (λ (e : Expr). Goes c.args.world.now (value (site c.args.world.now) (term_of e)) c.args.locals.now.slots.items c.args.locals.now.slots.items c.args.track.now c.value-in-Binary.new.track (Err (halt_for c.in_err-first-in-Binary.field-0.0))) (sym c.in-Binary.is)
+    (left_stops c.args.world.now (site c.args.world.now) c.args.locals.now.slots.items c.in-Binary.op c.in-Binary.line (term_of c.in-Binary.left.value) (term_of c.in-Binary.right.value) c.args.track.now c.value-in-Binary.new.track (halt_for c.in_err-first-in-Binary.field-0.0)
+    (subst (λ (x : Expr). Goes c.args.world.now (value (site c.args.world.now) (term_of x)) c.args.locals.now.slots.items c.args.locals.now.slots.items c.args.track.now c.value-in-Binary.new.track (Err (halt_for c.in_err-first-in-Binary.field-0.0))) c.deref-in-Binary.ensures c.in_err-first-in-Binary.ensures.goes)))
 
 pub compound-returns-in_err-second-in-Binary-clause-goes : goal.compound-returns-in_err-second-in-Binary-clause-goes
 compound-returns-in_err-second-in-Binary-clause-goes g t c =
     let p = err_from_is_err_and c.from_residual-in_err-second-in-Binary.result c.from_residual-in_err-second-in-Binary.ensures.1 in
     rw (p.1, p.2)
-    (subst (λ (e : Expr). Goes c.args.world.now (value (site c.args.world.now) (term_of e)) c.args.locals.now.slots.items c.args.locals.now.slots.items c.args.track.now c.value-in-Binary-2.new.track (Err c.in_err-second-in-Binary.field-0.0)) (sym c.in-Binary.is)
+    (subst (λ (e : Expr). Goes c.args.world.now (value (site c.args.world.now) (term_of e)) c.args.locals.now.slots.items c.args.locals.now.slots.items c.args.track.now c.value-in-Binary-2.new.track (Err (halt_for c.in_err-second-in-Binary.field-0.0))) (sym c.in-Binary.is)
     (right_stops c.args.world.now (site c.args.world.now) c.args.locals.now.slots.items c.in-Binary.op c.in-Binary.line (term_of c.in-Binary.left.value) (term_of c.in-Binary.right.value) c.in_ok-first-in-Binary.first c.args.track.now c.value-in-Binary.new.track c.value-in-Binary-2.new.track
-    (subst (λ (x : Expr). Made c.args.world.now (value (site c.args.world.now) (term_of x)) c.args.locals.now.slots.items c.args.locals.now.slots.items c.args.track.now c.value-in-Binary.new.track (Returned c.in_ok-first-in-Binary.first)) c.deref-in-Binary.ensures c.in_ok-first-in-Binary.ensures.goes) c.in_err-second-in-Binary.field-0.0
-    (subst (λ (x : Expr). Goes c.args.world.now (value (site c.args.world.now) (term_of x)) c.args.locals.now.slots.items c.args.locals.now.slots.items c.value-in-Binary.new.track c.value-in-Binary-2.new.track (Err c.in_err-second-in-Binary.field-0.0)) c.deref-in-Binary-2.ensures c.in_err-second-in-Binary.ensures.goes)))
+    (subst (λ (x : Expr). Made c.args.world.now (value (site c.args.world.now) (term_of x)) c.args.locals.now.slots.items c.args.locals.now.slots.items c.args.track.now c.value-in-Binary.new.track (Returned c.in_ok-first-in-Binary.first)) c.deref-in-Binary.ensures c.in_ok-first-in-Binary.ensures.goes) (halt_for c.in_err-second-in-Binary.field-0.0)
+    (subst (λ (x : Expr). Goes c.args.world.now (value (site c.args.world.now) (term_of x)) c.args.locals.now.slots.items c.args.locals.now.slots.items c.value-in-Binary.new.track c.value-in-Binary-2.new.track (Err (halt_for c.in_err-second-in-Binary.field-0.0))) c.deref-in-Binary-2.ensures c.in_err-second-in-Binary.ensures.goes)))
 
 pub value-returns-in-Number-clause-goes : goal.value-returns-in-Number-clause-goes
 value-returns-in-Number-clause-goes g t c =
@@ -79,10 +79,10 @@ value-returns-in-Span-clause-goes g t c =
 
 pub compound-returns-in_ok-at-in-Load-clause-goes : goal.compound-returns-in_ok-at-in-Load-clause-goes
 compound-returns-in_ok-at-in-Load-clause-goes g t c =
-    subst (λ (e : Expr). Goes c.args.world.now (value (site c.args.world.now) (term_of e)) c.args.locals.now.slots.items c.args.locals.now.slots.items c.args.track.now c.load.new.track c.load.result) (sym c.in-Load.is)
-    (load_goes c.args.world.now (site c.args.world.now) c.args.locals.now.slots.items c.in-Load.array (term_of c.in-Load.index.value) c.in-Load.line c.in-Load.site c.args.track.now c.value.new.track c.load.new.track c.in_ok-at-in-Load.at c.load.result
+    subst (λ (e : Expr). Goes c.args.world.now (value (site c.args.world.now) (term_of e)) c.args.locals.now.slots.items c.args.locals.now.slots.items c.args.track.now c.load.new.track (lane_answer c.load.result)) (sym c.in-Load.is)
+    (load_goes c.args.world.now (site c.args.world.now) c.args.locals.now.slots.items c.in-Load.array (term_of c.in-Load.index.value) c.in-Load.line c.in-Load.site c.args.track.now c.value.new.track c.load.new.track c.in_ok-at-in-Load.at (lane_answer c.load.result)
     (subst (λ (x : Expr). Made c.args.world.now (value (site c.args.world.now) (term_of x)) c.args.locals.now.slots.items c.args.locals.now.slots.items c.args.track.now c.value.new.track (Returned c.in_ok-at-in-Load.at)) c.deref.ensures c.in_ok-at-in-Load.ensures.goes)
-    (subst (λ (i : ℤ). Goes c.args.world.now (loaded (element_at c.args.world.now.arrays c.in-Load.array i) c.in-Load.line c.in-Load.site) c.args.locals.now.slots.items c.args.locals.now.slots.items c.value.new.track c.load.new.track c.load.result)
+    (subst (λ (i : ℤ). Goes c.args.world.now (loaded (element_at c.args.world.now.arrays c.in-Load.array i) c.in-Load.line c.in-Load.site) c.args.locals.now.slots.items c.args.locals.now.slots.items c.value.new.track c.load.new.track (lane_answer c.load.result))
     (let fits : FitsSigned w64 c.in_ok-at-in-Load.at = search rules in to_z-of_z w64 c.in_ok-at-in-Load.at fits) (c.load.ensures.goes c.args.locals.now.slots.items)))
 
 pub compound-returns-in_ok-negated-in-Neg-clause-goes : goal.compound-returns-in_ok-negated-in-Neg-clause-goes
@@ -98,7 +98,7 @@ pub compound-returns-in_ok-second-in-Binary-clause-goes : goal.compound-returns-
 compound-returns-in_ok-second-in-Binary-clause-goes g t c =
     let x = to_z-of_z w64 c.in_ok-first-in-Binary.first (search rules) in
     let y = to_z-of_z w64 c.in_ok-second-in-Binary.second (search rules) in
-    subst (λ (e : Expr). Goes c.args.world.now (value (site c.args.world.now) (term_of e)) c.args.locals.now.slots.items c.args.locals.now.slots.items c.args.track.now c.value-in-Binary-2.new.track c.operate.result) (sym c.in-Binary.is)
+    subst (λ (e : Expr). Goes c.args.world.now (value (site c.args.world.now) (term_of e)) c.args.locals.now.slots.items c.args.locals.now.slots.items c.args.track.now c.value-in-Binary-2.new.track (lane_answer c.operate.result)) (sym c.in-Binary.is)
     (binary_goes c.args.world.now (site c.args.world.now) c.args.locals.now.slots.items c.in-Binary.op c.in-Binary.line (term_of c.in-Binary.left.value) (term_of c.in-Binary.right.value) c.in_ok-first-in-Binary.first c.args.track.now c.value-in-Binary.new.track c.value-in-Binary-2.new.track
     (subst (λ (x : Expr). Made c.args.world.now (value (site c.args.world.now) (term_of x)) c.args.locals.now.slots.items c.args.locals.now.slots.items c.args.track.now c.value-in-Binary.new.track (Returned c.in_ok-first-in-Binary.first)) c.deref-in-Binary.ensures c.in_ok-first-in-Binary.ensures.goes) c.in_ok-second-in-Binary.second c.operate.result
     (can_follow c.args.world.now (value (site c.args.world.now) (term_of c.in-Binary.left.value)) c.args.locals.now.slots.items c.args.locals.now.slots.items c.args.track.now c.value-in-Binary.new.track (Returned c.in_ok-first-in-Binary.first) c.requires.can

@@ -5,7 +5,7 @@ use Rattle.kernel_syntax.specs.Program.{code_of, term_of}
 use Rattle.kernel_model.specs.Iterations.{total_of}
 use Rattle.kernel_model.specs.Trace.{shared}
 use Rattle.kernel_model.specs.Drawing.{turn_from}
-use Rattle.lane_runner.specs.Going.{Goes, site}
+use Rattle.lane_runner.specs.Going.{Goes, site, halt_for}
 use Rattle.lane_runner.proofs.Dealing.{for_first_stops, for_last_stops, for_goes}
 use Rattle.lane_runner.proofs.Values.{can_follow}
 use Rattle.lane_runner.proofs.Ongoing.{executes_later}
@@ -14,12 +14,12 @@ use Rattle.lane_runner.proofs.frame.Frame.shared_loop.Goals as goal
 pub returns-in_err-first-clause-goes : goal.returns-in_err-first-clause-goes
 returns-in_err-first-clause-goes g c =
     let p = err_from_is_err_and c.from_residual.result c.from_residual.ensures.1 in
-    rw (p.1, p.2) (for_first_stops c.args.world.now (site c.args.world.now) c.args.self.now.locals.slots.items c.args.slot (term_of c.args.from.now) (term_of c.args.to.now) c.args.schedule c.args.line c.args.end (code_of c.args.body.now.stmts.items) c.args.self.now.track c.value.new.track c.in_err-first.field-0.0 c.in_err-first.ensures.goes)
+    rw (p.1, p.2) (for_first_stops c.args.world.now (site c.args.world.now) c.args.self.now.locals.slots.items c.args.slot (term_of c.args.from.now) (term_of c.args.to.now) c.args.schedule c.args.line c.args.end (code_of c.args.body.now.stmts.items) c.args.self.now.track c.value.new.track (halt_for c.in_err-first.field-0.0) c.in_err-first.ensures.goes)
 
 pub returns-in_err-last-clause-goes : goal.returns-in_err-last-clause-goes
 returns-in_err-last-clause-goes g c =
     let p = err_from_is_err_and c.from_residual-in_err-last.result c.from_residual-in_err-last.ensures.1 in
-    rw (p.1, p.2) (for_last_stops c.args.world.now (site c.args.world.now) c.args.self.now.locals.slots.items c.args.slot (term_of c.args.from.now) (term_of c.args.to.now) c.args.schedule c.args.line c.args.end (code_of c.args.body.now.stmts.items) c.in_ok-first.first c.args.self.now.track c.value.new.track c.value-2.new.track c.in_ok-first.ensures.goes c.in_err-last.field-0.0 c.in_err-last.ensures.goes)
+    rw (p.1, p.2) (for_last_stops c.args.world.now (site c.args.world.now) c.args.self.now.locals.slots.items c.args.slot (term_of c.args.from.now) (term_of c.args.to.now) c.args.schedule c.args.line c.args.end (code_of c.args.body.now.stmts.items) c.in_ok-first.first c.args.self.now.track c.value.new.track c.value-2.new.track c.in_ok-first.ensures.goes (halt_for c.in_err-last.field-0.0) c.in_err-last.ensures.goes)
 
 pub returns-clause-goes : goal.returns-clause-goes
 returns-clause-goes g c =

@@ -11,7 +11,7 @@ use Rattle.kernel_model.specs.Changing.{kind_of}
 use Rattle.kernel_model.proofs.Changing.{put_grows}
 use Rattle.kernel_model.proofs.Effects.{makes-put_full}
 use Rattle.task_place.specs.Placing.{meant}
-use Rattle.lane_runner.specs.Going.{Progress, HasRoomFor}
+use Rattle.lane_runner.specs.Going.{Progress, HasRoomFor, halt_for}
 use Rattle.lane_runner.proofs.Stepping.{goes_unready}
 use Rattle.lane_runner.proofs.Accesses.{change_made}
 use Rattle.lane_runner.specs.Handed.{entries_of, place_of}
@@ -23,7 +23,7 @@ returns-in_err-ready-clause-goes g c =
     let event = model.access (kind_of c.args.change) (meant c.args.element.now) c.args.site c.args.line c.args.value in
     λ slots. rw (p.1, p.2)
     (goes_unready c.args.world.now (put event) slots c.args.line (λ (s : State). put_grows c.args.change event s refl)
-    (makes-put_full event slots) c.args.self.now c.ready.new.self c.in_err-ready.field-0.0 c.requires.can c.in_err-ready.ensures.room)
+    (makes-put_full event slots) c.args.self.now c.ready.new.self (halt_for c.in_err-ready.field-0.0) c.requires.can c.in_err-ready.ensures.room)
 
 pub returns-clause-goes : goal.returns-clause-goes
 returns-clause-goes g c =

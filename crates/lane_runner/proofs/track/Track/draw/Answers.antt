@@ -10,7 +10,7 @@ use Rattle.event_buffer.specs.Buffered.{Buffered}
 use Rattle.event_buffer.specs.Logged.{HoldsRecords}
 use Rattle.shared_words.specs.Draws.{drew}
 use Rattle.lane_runner.specs.Drawing.{Tally}
-use Rattle.lane_runner.specs.Going.{Progress, HasRoomFor, Made}
+use Rattle.lane_runner.specs.Going.{Progress, HasRoomFor, Made, halt_for}
 use Rattle.lane_runner.proofs.Stepping.{goes_unready}
 use Rattle.lane_runner.proofs.Drawn.{draw_grows, draw_made, same_hand}
 use Rattle.lane_runner.specs.Handed.{entries_of, place_of}
@@ -21,7 +21,7 @@ returns-in_err-ready-clause-goes g c =
     let p = err_from_is_err_and c.from_residual.result c.from_residual.ensures.1 in
     λ slots. rw (p.1, p.2)
     (goes_unready c.args.world.now (draw c.args.line c.args.chunks) slots c.args.line (draw_grows c.args.line c.args.chunks)
-    (makes-draw_full c.args.line c.args.chunks slots) c.args.self.now c.ready.new.self c.in_err-ready.field-0.0 c.requires.can c.in_err-ready.ensures.room)
+    (makes-draw_full c.args.line c.args.chunks slots) c.args.self.now c.ready.new.self (halt_for c.in_err-ready.field-0.0) c.requires.can c.in_err-ready.ensures.room)
 
 pub loop_after-self-inside-requires : goal.loop_after-self-inside-requires
 loop_after-self-inside-requires g c =

@@ -11,7 +11,7 @@ use Rattle.kernel_model.specs.Value.{read}
 use Rattle.kernel_model.specs.Effect.{Returned}
 use Rattle.kernel_model.proofs.Effects.{makes-read_full}
 use Rattle.task_place.specs.Placing.{meant}
-use Rattle.lane_runner.specs.Going.{Progress, Made, HasRoomFor}
+use Rattle.lane_runner.specs.Going.{Progress, Made, HasRoomFor, halt_for}
 use Rattle.lane_runner.proofs.Stepping.{goes_unready}
 use Rattle.lane_runner.proofs.Accesses.{read_grows, read_event, read_made}
 use Rattle.lane_runner.specs.Handed.{entries_of, place_of}
@@ -22,7 +22,7 @@ returns-in_err-ready-clause-goes g c =
     let p = err_from_is_err_and c.from_residual.result c.from_residual.ensures.1 in
     λ slots. rw (p.1, p.2)
     (goes_unready c.args.world.now (read (meant c.args.element.now) c.args.site c.args.line) slots c.args.line (read_grows (meant c.args.element.now) c.args.site c.args.line)
-    (makes-read_full (meant c.args.element.now) c.args.site c.args.line slots) c.args.self.now c.ready.new.self c.in_err-ready.field-0.0 c.requires.can c.in_err-ready.ensures.room)
+    (makes-read_full (meant c.args.element.now) c.args.site c.args.line slots) c.args.self.now c.ready.new.self (halt_for c.in_err-ready.field-0.0) c.requires.can c.in_err-ready.ensures.room)
 
 pub returns-clause-goes : goal.returns-clause-goes
 returns-clause-goes g c =
