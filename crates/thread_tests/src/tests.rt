@@ -1,0 +1,92 @@
+//! On which thread a lane runs its phases.
+
+use call_fixtures::asked;
+use command_answer::DONE;
+use host_environment::HostFolder;
+use memory_environment::{MemFolder, MemOut};
+use std::alloc::Global;
+use std::sync::atomic::{AtomicU64, Ordering};
+use std::test::Fail;
+use sw_base::{Folder, Gate};
+
+// What the host tells of the thread that asks.
+const ABOUT: &str = "/proc/thread-self/status";
+
+// What stands before its number.
+const NUMBER: &[u8] = b"\nPid:\t";
+
+// The number of the thread that asks, or 0 where the host doesn't tell it.
+fn this_thread(rt: HostRuntime, alloc: Global) -> u64 {
+    let mut about = [0u8; 1024];
+    let Ok(count) = HostFolder::new(rt).read(alloc, ABOUT, 0, &mut about) else {
+        return 0;
+    };
+    let told = &about[..count];
+    for at in 0..count {
+        if let Some(after) = told[at..].strip_prefix(NUMBER) {
+            return number(after);
+        }
+    }
+    0
+}
+
+// The number at the start of these bytes.
+fn number(bytes: &[u8]) -> u64 {
+    let mut value = 0u64;
+    for byte in bytes {
+        if !byte.is_ascii_digit() {
+            break;
+        }
+        value = value
+            .saturating_mul(10)
+            .saturating_add(u64::from(*byte - b'0'));
+    }
+    value
+}
+
+// Notes the threads on which the second lane begins its first phases.
+#[derive(Drop)]
+struct ThreadGate {
+    rt: HostRuntime,
+    alloc: Global,
+    phases: AtomicU64,
+    threads: [AtomicU64; 3],
+}
+
+impl Gate for ThreadGate {
+    fn enter(&self, number: usize) {
+        if number != 1 {
+            return;
+        }
+        let phase = self.phases.fetch_add(1, Ordering::SeqCst);
+        if let Some(noted) = self.threads.get(phase as usize) {
+            noted.store(this_thread(self.rt, self.alloc), Ordering::SeqCst);
+        }
+    }
+}
+
+const THREE_PHASES: &str =
+    "array a i64 4 main { parallel 2 { a[tid] = 1 barrier a[2 + tid] = 2 barrier a[tid] = 3 } }";
+
+#[test]
+fn a_lane_stays_on_its_thread_in_live(rt: HostRuntime) -> Result<(), Fail> {
+    let alloc = rt.alloc();
+    let gate = ThreadGate {
+        rt,
+        alloc,
+        phases: AtomicU64::new(0),
+        threads: [AtomicU64::new(0), AtomicU64::new(0), AtomicU64::new(0)],
+    };
+    let mut folder = MemFolder::new(alloc)?;
+    folder.hold("k", THREE_PHASES.as_bytes())?;
+    let mut out = MemOut::new(alloc)?;
+    let words = &["live", "k", "d", "4096"];
+    let status = asked(&rt, alloc, &mut folder, words, &mut out, &gate)?;
+    assert!(rt; status == DONE);
+    assert!(rt; gate.phases.load(Ordering::SeqCst) == 3);
+    let [first, second, third] = &gate.threads;
+    let first = first.load(Ordering::SeqCst);
+    assert!(rt; first > 0 && first != this_thread(rt, alloc));
+    assert!(rt; second.load(Ordering::SeqCst) == first && third.load(Ordering::SeqCst) == first);
+    Ok(())
+}
