@@ -240,7 +240,7 @@ fn push_row(index: &mut Vec<u8>, steps: &[[u8; 3]], records: usize) -> Result<()
         let [region, lane, span] = *steps.get(place).unwrap_or(&[0, 0, 0]);
         index.extend_from_slice(&[0, 0, 0, region, 0, lane, 0, span])?;
     }
-    index.extend_from_slice(&[0, 0, 0, 0, 0, 0, 0, records.min(255) as u8])
+    index.extend_from_slice(&(records as u64).to_be_bytes())
 }
 
 fn folder_of(alloc: Global, tasks: &[Task<'_>]) -> Result<MemFolder, Memory> {
@@ -343,6 +343,44 @@ fn each_failing_read_is_told(rt: HostRuntime) -> Result<(), Fail> {
         let mut folder = folder_of(rt.alloc(), SHIFTED)?;
         folder.fail(&[call])?;
         assert!(rt; answer_of(rt.alloc(), &mut folder) == due, "at call {call}");
+    }
+    Ok(())
+}
+
+// More records than are read at once.
+const MANY: usize = 3_000;
+
+fn many_loads(alloc: Global) -> Result<Vec<Rec>, Memory> {
+    let mut records: Vec<Rec> = Vec::new(alloc);
+    records.resize(MANY, load!(8192))?;
+    records.push(store!(4096))?;
+    records.push(END)?;
+    Ok(records)
+}
+
+// What is answered where this call fails and the record that races is behind many others.
+fn late_answer(alloc: Global, call: u64) -> Result<Told, Memory> {
+    let first = many_loads(alloc)?;
+    let tasks: &[Task<'_>] = two!(first.as_slice(), &[store!(4096), END]);
+    let mut folder = folder_of(alloc, tasks)?;
+    folder.fail(&[call])?;
+    Ok(match confirm(alloc, &mut folder, "d", 2, 3_001, 3, 1) {
+        Ok(Some(_)) => Told::Race,
+        Err(WalkFault::ReadFault) => Told::ReadFault,
+        _ => Told::Other,
+    })
+}
+
+#[test]
+fn each_failing_read_of_a_long_log_is_told(rt: HostRuntime) -> Result<(), Fail> {
+    // One call more of the sweep than for short logs, and one more where the long log is read again.
+    for call in 1..21 {
+        let due = if call < 20 {
+            Told::ReadFault
+        } else {
+            Told::Race
+        };
+        assert!(rt; late_answer(rt.alloc(), call)? == due, "at call {call}");
     }
     Ok(())
 }

@@ -23,6 +23,7 @@ macro_rules! refused {
 const HELD: &[Case<'static>] = &[
     (Some(KERNEL), &[], 1, 0, ""),
     (Some(KERNEL), &[1], 0, READ_FAULT, ""),
+    refused!(b"", "kernel line 1: Syntax\n"),
     refused!(b"main {\nb[0] = 1\n}", "kernel line 2: Unknown\n"),
     refused!(
         b"array a i8 1\narray a i8 1 main { }",
