@@ -82,13 +82,25 @@ FinishSoFar-step all left less s runs more differ popped so_far adds = record {
         record { run = was.run; listed = Contains-append_left runs adds.cuts.cuts was.run was.listed; keyed = was.keyed; addressed = was.addressed }
   ])
 
+moved_pair : (runs sorted : List Run) (k : Key) (a : ℕ) → IsPermutation runs sorted → HasPair runs k a → HasPair sorted k a
+moved_pair runs sorted k a same h = record { run = h.run; listed = Contains-permutation runs sorted h.run same h.listed; keyed = h.keyed; addressed = h.addressed }
+
+-- the same in another order
+pub FinishSoFar-moved : (all left : List Stretch) (runs moved : List Run) → IsPermutation runs moved → FinishSoFar all left runs → FinishSoFar all left moved
+FinishSoFar-moved all left runs moved same so_far = record {
+  done = so_far.done;
+  split = so_far.split;
+  pairs = λ k a. (
+    λ h. (so_far.pairs k a).0 (moved_pair moved runs k a (IsPermutation-sym runs moved same) h),
+    λ h. moved_pair runs moved k a same ((so_far.pairs k a).1 h),
+  );
+  apart = EachApart-permutation runs moved same so_far.apart;
+}
+
 -- the runs of all keys and of the accesses that stand alone, in another order
 pub record IsFinished (all : List Stretch) (singles : List Single) (runs : List Run) : Type 0 where
   pub pairs : (key : Key) (address : ℕ) → HasPair runs key address ↔ (Holds all key address ⊎ HoldsSingle singles key address)
   pub apart : AreApart runs
-
-moved_pair : (runs sorted : List Run) (k : Key) (a : ℕ) → IsPermutation runs sorted → HasPair runs k a → HasPair sorted k a
-moved_pair runs sorted k a same h = record { run = h.run; listed = Contains-permutation runs sorted h.run same h.listed; keyed = h.keyed; addressed = h.addressed }
 
 pub IsFinished-sorted : (all left : List Stretch) (singles : List Single) (runs more sorted : List Run) → FinishSoFar all left runs → length left ≡ 0 → AreOthers singles all → AddsSingles singles runs more
     → IsPermutation more sorted → IsNonDecreasingBy (λ (r : Run). r.base) sorted → IsFinished all singles sorted

@@ -1,5 +1,5 @@
 //! The places of keys.
-ghost use Rattle.std.specs.Prelude.{◌≡◌, ◌++◌, ◌∷◌, [], None, IfOk, if◌then◌else◌, is_ok, length, ◌≤◌, vec_len};
+ghost use Rattle.std.specs.Prelude.{◌≡◌, ◌++◌, ◌∷◌, [], None, true, IfOk, if◌then◌else◌, is_ok, length, ◌≤◌, vec_len};
 ghost use Rattle.stride_summary.specs.Places.{TellsPlaces, place_under};
 
 use crate::key::Key;
@@ -7,10 +7,24 @@ use crate::stretch::Stretch;
 use std::collections::BTreeMap;
 use sw_base::Memory;
 
+// Whether all keys of the map are less.
+fn is_behind(places: &BTreeMap<Key, usize>, key: &Key) -> bool
+    ensures { result ≡ true → place_under places.now key.now ≡ None }
+{
+    match places.last_key_value() {
+        Some((last, _)) => last.cmp(key).is_lt(),
+        None => false,
+    }
+}
+
 /// The place of the key.
 pub fn place_under(places: &BTreeMap<Key, usize>, key: &Key) -> Option<usize>
     ensures { result ≡ place_under places.now key.now }
 {
+    // Where lines come in order, further ones aren't looked for.
+    if is_behind(places, key) {
+        return None;
+    }
     places.get(key).copied()
 }
 

@@ -116,6 +116,8 @@ impl Summary {
         'keys: while let Some(stretch) = stretches.pop() {
             stretch.push_into(&mut runs);
         }
+        // The last key was the first to leave. Where keys came by their addresses, all runs are in order now.
+        runs.reverse();
         singles.push_into(&mut runs);
         runs.sort_unstable_by_key(|run| run.low());
         runs

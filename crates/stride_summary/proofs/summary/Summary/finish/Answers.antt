@@ -3,7 +3,7 @@ use Rattle.std.proofs.lemmas.List.Sums.{sum_by-append}
 use Rattle.std.proofs.lemmas.List.Sorted.{IsNonDecreasingBy-from_sort, answers_always}
 use Rattle.stride_summary.specs.declared.run.Run.{Run}
 use Rattle.stride_summary.specs.Stretches.{needed_of}
-use Rattle.stride_summary.proofs.Finishing.{FinishSoFar-start, FinishSoFar-step, IsFinished-sorted}
+use Rattle.stride_summary.proofs.Finishing.{FinishSoFar-start, FinishSoFar-moved, FinishSoFar-step, IsFinished-sorted}
 use Rattle.stride_summary.proofs.summary.Summary.finish.Goals as goal
 
 pub keys-init : goal.keys-init
@@ -25,8 +25,8 @@ returns-clause-ascends c = IsNonDecreasingBy-from_sort (λ (r : Run). r.base) c.
 
 pub returns-clause-pairs : goal.returns-clause-pairs
 returns-clause-pairs c =
-    (IsFinished-sorted c.args.self.stretches.items c.keys.stretches.items c.args.self.singles.list.items c.keys.runs.items c.push_into-2.new.runs.items c.sort_unstable_by_key.new.self.items c.keys.invariant.so_far (search rules) c.args.self.others c.push_into-2.ensures c.sort_unstable_by_key.ensures.permutation (returns-clause-ascends c)).pairs
+    (IsFinished-sorted c.args.self.stretches.items c.keys.stretches.items c.args.self.singles.list.items c.reverse.new.self.items c.push_into-2.new.runs.items c.sort_unstable_by_key.new.self.items (FinishSoFar-moved c.args.self.stretches.items c.keys.stretches.items c.keys.runs.items c.reverse.new.self.items c.reverse.ensures.permutation c.keys.invariant.so_far) (search rules) c.args.self.others c.push_into-2.ensures c.sort_unstable_by_key.ensures.permutation (returns-clause-ascends c)).pairs
 
 pub returns-clause-apart : goal.returns-clause-apart
 returns-clause-apart c =
-    (IsFinished-sorted c.args.self.stretches.items c.keys.stretches.items c.args.self.singles.list.items c.keys.runs.items c.push_into-2.new.runs.items c.sort_unstable_by_key.new.self.items c.keys.invariant.so_far (search rules) c.args.self.others c.push_into-2.ensures c.sort_unstable_by_key.ensures.permutation (returns-clause-ascends c)).apart
+    (IsFinished-sorted c.args.self.stretches.items c.keys.stretches.items c.args.self.singles.list.items c.reverse.new.self.items c.push_into-2.new.runs.items c.sort_unstable_by_key.new.self.items (FinishSoFar-moved c.args.self.stretches.items c.keys.stretches.items c.keys.runs.items c.reverse.new.self.items c.reverse.ensures.permutation c.keys.invariant.so_far) (search rules) c.args.self.others c.push_into-2.ensures c.sort_unstable_by_key.ensures.permutation (returns-clause-ascends c)).apart
