@@ -1,18 +1,60 @@
-ghost use Rattle.std.specs.Prelude.{◌≡◌, ◌≤◌, IfOk, IfErr, IsErrOf};
+ghost use Rattle.std.specs.Prelude.{◌≡◌, ◌≤◌, [], IfOk, IfErr, IsErrOf, OnOk};
 ghost use Rattle.log_format.specs.declared.format.TheConstants.{FORMAT};
 ghost use Rattle.sw_base.specs.Environment.{Rose, WhereTold};
 ghost use Rattle.log_walk.specs.Walk.{TellsFirstBad};
+ghost use Rattle.pair_compare.specs.Compare.{IsSegmentPair};
+ghost use Rattle.pair_compare.specs.Conflict.{AddsPairs};
 ghost use Rattle.folder_races.specs.Pairs.{AreFolderPairs};
 
+use log_segment::Segment;
 use log_walk::{Sweep, WalkFault};
 use pair_compare::{compare_all, unite};
 use std::alloc::Global;
 use std::collections::BTreeSet;
 use std::thread::Threads;
-use sw_base::{Folder, Gate};
+use sw_base::{Folder, Gate, Memory};
 
-/// The race pairs of the folder's run, found one region of the root after another. Of a region's segments nothing is kept but
-/// its pairs.
+/// At most so many segments and runs wait for those of the root's next region.
+const MOST: usize = 16_384;
+
+// How many segments and runs there are.
+fn count(segments: &[Segment]) -> usize {
+    let mut count = segments.len();
+    for segment in segments {
+        count = count.saturating_add(segment.runs.len());
+    }
+    count
+}
+
+// How many may wait the next time: few at first, so that workers start early.
+fn next_limit(limit: usize) -> usize {
+    limit.saturating_mul(2).saturating_add(1).min(MOST)
+}
+
+// Adds the pairs of the segments that wait. Then none does.
+fn compare<R: Threads + Sync, G: Gate>(
+    rt: &R,
+    alloc: Global,
+    gate: &G,
+    workers: usize,
+    waiting: &mut Vec<Segment>,
+    pairs: &mut BTreeSet<(u32, u32)>,
+) -> Result<(), Memory>
+    requires workers { (1 ≤ workers) × (workers ≤ 64) }
+    ensures added { OnOk result (AddsPairs pairs.old.keys pairs.new.keys (IsSegmentPair waiting.old.items)) }
+    ensures none { OnOk result (waiting.new.items ≡ []) }
+{
+    if waiting.is_empty() {
+        return Ok(());
+    }
+    let found = compare_all(rt, alloc, waiting, workers, gate)?;
+    unite(pairs, &found)?;
+    waiting.clear();
+    Ok(())
+}
+
+/// The race pairs of the folder's run, found one region of the root after another, and where regions have few accesses several
+/// at once. Nothing is kept of the segments that were compared but their pairs.
 pub fn folder_pairs<R: Threads + Sync, F: Folder, G: Gate>(
     rt: &R,
     alloc: Global,
@@ -31,10 +73,20 @@ pub fn folder_pairs<R: Threads + Sync, F: Folder, G: Gate>(
 {
     let mut pairs = BTreeSet::new(alloc);
     let (mut sweep, _root) = Sweep::open(alloc, folder, dir)?;
-    'regions: while let Some(segments) = sweep.next_by(rt, alloc, folder, workers)? {
-        let found = compare_all(rt, alloc, &segments, workers, gate)?;
-        unite(&mut pairs, &found)?;
+    let mut waiting = Vec::new(alloc);
+    let mut number = 0usize;
+    let mut limit = 0;
+    'regions: while let Some(mut segments) = sweep.next_by(rt, alloc, folder, workers)? {
+        number = number.saturating_add(count(&segments));
+        waiting.append(&mut segments)?;
+        if number <= limit {
+            continue;
+        }
+        compare(rt, alloc, gate, workers, &mut waiting, &mut pairs)?;
+        number = 0;
+        limit = next_limit(limit);
     }
+    compare(rt, alloc, gate, workers, &mut waiting, &mut pairs)?;
     // That the keys of a set ascend is told by its length's contract.
     let _length = pairs.len();
     Ok(pairs)

@@ -1,5 +1,5 @@
 -- Two accesses that race are in tasks under one region of the root.
-use Rattle.std.proofs.Common.{◌≡◌, ◌⊎◌, ◌↔◌, ℕ, ◌+◌, ◌%◌, ◌<◌, List, [], ◌∷◌, ◌++◌, Contains, inl, inr, refl, sym, ap, ◌∙◌, subst, arith}
+use Rattle.std.proofs.Common.{◌≡◌, ◌⊎◌, ◌↔◌, ℕ, ◌+◌, ◌%◌, ◌<◌, ◌≤◌, List, [], ◌∷◌, ◌++◌, Contains, inl, inr, refl, sym, ap, ◌∙◌, subst, arith}
 use Rattle.sw_base.specs.declared.path.Step.{Step}
 use Rattle.log_segment.specs.Intervals.{AreSegments}
 use Rattle.log_segment.specs.Regions.{IsUnderRegion}
@@ -10,11 +10,13 @@ use Rattle.race_model.specs.Race.{IsRacePair}
 use Rattle.race_model.specs.Trace.{Logs, Node, IsThere, regions_before}
 use Rattle.race_laws.proofs.LabelLaw.{unordered_concurrent}
 use Rattle.race_laws.proofs.LabelPlace.{label_exists}
+use Rattle.std.proofs.lemmas.Bool.{cases_lt}
+use Rattle.std.proofs.lemmas.List.Elements.{Contains-append_cases, Contains-append_left, Contains-append_right}
 use Rattle.std.proofs.lemmas.Option.{slice_get_within}
 use Rattle.pair_compare.proofs.Members.{concurrent_sym}
 use Rattle.pair_compare.specs.Compare.{IsSegmentPair}
 use Rattle.pair_compare.specs.Conflict.{AddsPairs}
-use Rattle.pair_compare.specs.Regions.{IsRacePairAmong, IsRacePairBelow}
+use Rattle.pair_compare.specs.Regions.{IsRacePairAmong, IsRacePairBelow, IsUnderRegions}
 use Rattle.pair_compare.proofs.Races.{pairs_iff_races}
 
 abbrev root_triple : ℕ → Triple
@@ -120,17 +122,22 @@ under_one logs x y l m is_l is_m c = in_both logs x y l m (first_of logs x l is_
 task_of : (logs : Logs) (x : Node) → IsThere logs x → IsTask logs x.path
 task_of logs x h = omega arith
 
-race_below : (logs : Logs) (regions : ℕ) (pair : ℕ × ℕ) → IsForkJoin logs → ((path : List Step) (region : ℕ) → IsTask logs path → IsUnderRegion region path → region < regions) → IsRacePair logs pair → IsRacePairBelow logs regions pair
-race_below logs regions pair tree few h =
+-- two accesses that race are under one region
+race_under_one : (logs : Logs) (pair : ℕ × ℕ) → IsForkJoin logs → (h : IsRacePair logs pair) → UnderOne h.x h.y
+race_under_one logs pair tree h =
     let x_there : IsThere logs h.x = slice_get_within (logs h.x.path) h.x.index h.r h.race.left in
     let y_there : IsThere logs h.y = slice_get_within (logs h.y.path) h.y.index h.s h.race.right in
     let mine = label_exists logs h.x tree x_there in
     let yours = label_exists logs h.y tree y_there in
-    let one = under_one logs h.x h.y mine.label yours.label mine.is_label yours.is_label
-    (unordered_concurrent logs h.x h.y mine.label yours.label tree x_there y_there mine.is_label yours.is_label h.race.unordered) in
+    under_one logs h.x h.y mine.label yours.label mine.is_label yours.is_label
+    (unordered_concurrent logs h.x h.y mine.label yours.label tree x_there y_there mine.is_label yours.is_label h.race.unordered)
+
+race_below : (logs : Logs) (regions : ℕ) (pair : ℕ × ℕ) → IsForkJoin logs → ((path : List Step) (region : ℕ) → IsTask logs path → IsUnderRegion region path → region < regions) → IsRacePair logs pair → IsRacePairBelow logs regions pair
+race_below logs regions pair tree few h =
+    let one = race_under_one logs pair tree h in
     record {
       region = one.region;
-      below = few h.x.path one.region (task_of logs h.x x_there) one.left;
+      below = few h.x.path one.region (task_of logs h.x (slice_get_within (logs h.x.path) h.x.index h.r h.race.left)) one.left;
       among = record { races = h; left = one.left; right = one.right };
     }
 
@@ -143,16 +150,73 @@ no_region logs pair h = let below = h.below in omega arith
 last_or_below : (k n : ℕ) → k < n + 1 → (k < n) ⊎ (k ≡ n)
 last_or_below k n less = grind arith
 
+first_number : List Step → ℕ
+first_number [] = 0
+first_number (step ∷ rest) = step.region
+
+one_number : (m n : ℕ) (path : List Step) → IsUnderRegion m path → IsUnderRegion n path → m ≡ n
+unfolding first_number
+one_number m n path a b = sym a.region_is ∙ ap first_number (sym a.parts ∙ b.parts) ∙ b.region_is
+
+-- no region, no segment
+pub no_segments : (logs : Logs) (region : ℕ) → AreSegments logs (IsUnderRegions region region) []
+no_segments logs region = record {
+  each = λ segment listed key address pair. absurd (omega (arith, listed.1));
+  all = λ x r one at access. let least = one.at_least in let below = one.below in absurd (omega arith);
+}
+
+-- and those of one region more
+pub more_segments : (logs : Logs) (from region : ℕ) (segments more : List Segment) → from ≤ region → AreSegments logs (IsUnderRegions from region) segments → AreSegments logs (IsUnderRegion region) more
+    → AreSegments logs (IsUnderRegions from (region + 1)) (segments ++ more)
+more_segments logs from region segments more rising first second = record {
+  each = λ segment listed key address pair. elim (Contains-append_cases segments more segment listed) [
+    | inl old ↦
+        let found = first.each segment old key address pair in
+        let below = found.0.below in
+        (record { region = found.0.region; at_least = found.0.at_least; below = omega arith; under = found.0.under }, found.1)
+    | inr new ↦
+        let found = second.each segment new key address pair in
+        (record { region = region; at_least = rising; below = omega arith; under = found.0 }, found.1)
+  ];
+  all = λ x r one at access. elim (last_or_below one.region region one.below) [
+    | inl earlier ↦
+        let found = first.all x r (record { region = one.region; at_least = one.at_least; below = earlier; under = one.under }) at access in
+        (found.0, Contains-append_left segments more found.0 found.1, found.2, found.3, found.4)
+    | inr last ↦
+        let found = second.all x r (subst (λ (k : ℕ). IsUnderRegion k x.path) last one.under) at access in
+        (found.0, Contains-append_right segments more found.0 found.1, found.2, found.3, found.4)
+  ];
+}
+
+among_below : (logs : Logs) (from to : ℕ) (pair : ℕ × ℕ) → IsForkJoin logs → IsRacePairAmong logs (IsUnderRegions from to) pair → IsRacePairBelow logs to pair
+among_below logs from to pair tree among =
+    let one = race_under_one logs pair tree among.races in
+    record {
+      region = one.region;
+      below = subst (λ (k : ℕ). k < to) (one_number among.left.region one.region among.races.x.path among.left.under one.left) among.left.below;
+      among = record { races = among.races; left = one.left; right = one.right };
+    }
+
+pub next_regions : (logs : Logs) (from to : ℕ) (segments : List Segment) (old new : List (ℕ × ℕ)) → IsForkJoin logs → from ≤ to → AreSegments logs (IsUnderRegions from to) segments
+    → ((pair : ℕ × ℕ) → Contains old pair ↔ IsRacePairBelow logs from pair) → AddsPairs old new (IsSegmentPair segments)
+    → (pair : ℕ × ℕ) → Contains new pair ↔ IsRacePairBelow logs to pair
+next_regions logs from to segments old new tree rising are before adds pair = (
+  λ h. elim (adds.only pair h) [
+    | inl was ↦ (let b = (before pair).0 was in let below = b.below in record { region = b.region; below = omega arith; among = b.among })
+    | inr found ↦ among_below logs from to pair tree ((pairs_iff_races logs (IsUnderRegions from to) segments pair tree are).0 found)
+  ],
+  λ h. elim (cases_lt h.region from) [
+    | inl earlier ↦ adds.kept pair ((before pair).1 (record { region = h.region; below = earlier; among = h.among }))
+    | inr later ↦ adds.added pair ((pairs_iff_races logs (IsUnderRegions from to) segments pair tree are).1 (record {
+      races = h.among.races;
+      left = record { region = h.region; at_least = later; below = h.below; under = h.among.left };
+      right = record { region = h.region; at_least = later; below = h.below; under = h.among.right };
+    }))
+  ],
+)
+
 pub next_region : (logs : Logs) (region : ℕ) (segments : List Segment) (old new : List (ℕ × ℕ)) → IsForkJoin logs → AreSegments logs (IsUnderRegion region) segments
     → ((pair : ℕ × ℕ) → Contains old pair ↔ IsRacePairBelow logs region pair) → AddsPairs old new (IsSegmentPair segments)
     → (pair : ℕ × ℕ) → Contains new pair ↔ IsRacePairBelow logs (region + 1) pair
-next_region logs region segments old new tree are before adds pair = (
-  λ h. elim (adds.only pair h) [
-    | inl was ↦ (let b = (before pair).0 was in let below = b.below in record { region = b.region; below = omega arith; among = b.among })
-    | inr found ↦ record { region = region; below = omega arith; among = (pairs_iff_races logs (IsUnderRegion region) segments pair tree are).0 found }
-  ],
-  λ h. elim (last_or_below h.region region h.below) [
-    | inl earlier ↦ adds.kept pair ((before pair).1 (record { region = h.region; below = earlier; among = h.among }))
-    | inr last ↦ adds.added pair ((pairs_iff_races logs (IsUnderRegion region) segments pair tree are).1 (subst (λ (k : ℕ). IsRacePairAmong logs (IsUnderRegion k) pair) last h.among))
-  ],
-)
+next_region logs region segments old new tree are before adds =
+    next_regions logs region (region + 1) segments old new tree (omega arith) (more_segments logs region region [] segments (omega arith) (no_segments logs region) are) before adds

@@ -1,9 +1,9 @@
 //! In which order `check` reads and compares.
 
-use call_fixtures::{Case, EMPTY, END, asked, folder_of, region, store};
+use call_fixtures::{Case, EMPTY, END, Rec, Step, asked, folder_of, hold_tasks, region, store};
 use command_answer::{RACES, READ_FAULT};
-use memory_environment::MemOut;
-use std::alloc::Global;
+use memory_environment::{MemFolder, MemOut};
+use std::alloc::{AllocError, Global};
 use std::marker::Send;
 use std::sync::Wait;
 use std::sync::atomic::{AtomicU64, Ordering};
@@ -72,5 +72,60 @@ fn a_region_is_compared_before_the_next_is_read(rt: HostRuntime) -> Result<(), F
         );
     }
     assert!(rt; answered(&rt, alloc, 24)? == (RACES, 2 * WORKERS));
+    Ok(())
+}
+
+const REGIONS: u32 = 100;
+
+// The lanes of these regions: two each, which write one element, in lines of their own.
+fn lanes_of(alloc: Global) -> Result<Vec<([Step; 1], [Rec; 2])>, AllocError> {
+    let mut lanes = Vec::new(alloc);
+    for region in 0..REGIONS {
+        for lane in [0u16, 1] {
+            let line = 1 + 2 * region + u32::from(lane);
+            lanes.push(([(region, lane, 2)], [store!(line, 4096), END]))?;
+        }
+    }
+    Ok(lanes)
+}
+
+fn small_regions(alloc: Global) -> Result<MemFolder, Memory> {
+    let mut root = Vec::new(alloc);
+    for _ in 0..REGIONS {
+        root.push(region!(1, 2))?;
+    }
+    root.push(END)?;
+    let lanes = lanes_of(alloc)?;
+    let mut tasks: Vec<(&[Step], &[Rec])> = Vec::new(alloc);
+    tasks.push((&[], &root))?;
+    for (steps, records) in &lanes {
+        tasks.push((steps, records))?;
+    }
+    let mut folder = MemFolder::new(alloc)?;
+    hold_tasks(alloc, &mut folder, &tasks)?;
+    Ok(folder)
+}
+
+fn race_in_each(alloc: Global) -> Result<String, AllocError> {
+    let mut text = String::new(alloc);
+    for region in 0..REGIONS {
+        write!(text, "race {} {}\n", 1 + 2 * region, 2 + 2 * region)?;
+    }
+    write!(text, "races {REGIONS}\n")?;
+    Ok(text)
+}
+
+// The first three alone, and then those before the sixth, tenth, eighteenth, thirty-fourth and sixty-sixth, and the last.
+#[test]
+fn small_regions_are_compared_together(rt: HostRuntime) -> Result<(), Fail> {
+    let alloc = rt.alloc();
+    let gate = Counted {
+        come: AtomicU64::new(0),
+    };
+    let mut out = MemOut::new(alloc)?;
+    let mut folder = small_regions(alloc)?;
+    let status = asked(&rt, alloc, &mut folder, CHECK, &mut out, &gate)?;
+    assert!(rt; status == RACES && out.written() == race_in_each(alloc)?.as_bytes());
+    assert!(rt; gate.come.load(Ordering::SeqCst) == 9 * WORKERS);
     Ok(())
 }

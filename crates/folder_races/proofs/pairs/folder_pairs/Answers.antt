@@ -1,9 +1,10 @@
-use Rattle.std.proofs.Common.{◌≡◌, ℕ, List, [], Option, ap, sym, subst, ◌∙◌, arith, rules}
+use Rattle.std.proofs.Common.{◌≡◌, ℕ, List, [], ◌++◌, Option, ap, sym, subst, ◌∙◌, arith, rules}
 use Rattle.std.proofs.lemmas.Result.{err_from_is_err_and}
 use Rattle.log_format.specs.declared.format.TheConstants.{FORMAT}
 use Rattle.sw_base.specs.Environment.{Content, FolderState}
+use Rattle.log_segment.specs.declared.segment.Segment.{Segment}
 use Rattle.log_walk.specs.Sweep.{GivesRegion, HasSwept, HasSweptAll}
-use Rattle.folder_races.proofs.Sweeping.{SweptPairs, SweptPairs-start, SweptPairs-next, SweptPairs-all}
+use Rattle.folder_races.proofs.Sweeping.{SweptPairs, SweptPairs-all, SweptPairs-compared, SweptPairs-next, SweptPairs-start}
 use Rattle.folder_races.proofs.pairs.folder_pairs.Goals as goal
 
 same_content : {one other : FolderState} → one ≡ other → one.content ≡ other.content
@@ -13,8 +14,10 @@ pub regions-init : goal.regions-init
 regions-init g c = record {
   swept =
       let keys : c.new-pairs.result.keys ≡ [] = search rules in
-      subst (λ (pairs : List (ℕ × ℕ)). SweptPairs (g.F.Folder.state c.args.folder.now).content c.args.dir.now c.in_ok-sweep.sweep pairs) (sym keys)
-      (SweptPairs-start _ _ _ _ c.in_ok-sweep.ensures.begins);
+      let none : c.new-waiting.result.items ≡ [] = search rules in
+      subst (λ (pairs : List (ℕ × ℕ)). SweptPairs (g.F.Folder.state c.args.folder.now).content c.args.dir.now c.in_ok-sweep.sweep pairs c.new-waiting.result.items) (sym keys)
+      (subst (λ (waiting : List Segment). SweptPairs (g.F.Folder.state c.args.folder.now).content c.args.dir.now c.in_ok-sweep.sweep [] waiting) (sym none)
+      (SweptPairs-start _ _ _ _ c.in_ok-sweep.ensures.begins));
   fresh = λ e is. let none_yet = c.in_ok-sweep.ensures.begins.fresh in absurd (cc (none_yet, is));
   same = c.in_ok-sweep.ensures.same;
   later = c.in_ok-sweep.ensures.later;
@@ -33,10 +36,29 @@ regions-preserved g c = record {
       let swept = c.regions.invariant.swept in
       let now = subst (λ (t : Option Content). HasSwept FORMAT t c.args.dir.now c.regions.sweep swept.trace) (sym (same_content c.regions.invariant.same)) swept.swept in
       let gives = rw c.in-Some.is at (c.in_ok-segments.ensures.next.region FORMAT c.args.dir.now swept.trace now) in
-      let lists = rw c.deref.ensures.value at c.in_ok-found.ensures in
-      SweptPairs-next (g.F.Folder.state c.args.folder.now).content c.args.dir.now c.regions.sweep c.next_by.new.self c.regions.pairs.keys c.in_ok-found.found.keys c.unite.new.pairs.keys c.in-Some.segments.items swept
-      (subst (λ (t : Option Content). GivesRegion FORMAT t c.args.dir.now c.regions.sweep c.next_by.new.self swept.trace c.in-Some.segments.items) (same_content c.regions.invariant.same) gives)
-      lists c.in_ok-unite.ensures.added;
+      let next = SweptPairs-next (g.F.Folder.state c.args.folder.now).content c.args.dir.now c.regions.sweep c.next_by.new.self c.regions.pairs.keys c.regions.waiting.items c.in-Some.segments.items swept
+      (subst (λ (t : Option Content). GivesRegion FORMAT t c.args.dir.now c.regions.sweep c.next_by.new.self swept.trace c.in-Some.segments.items) (same_content c.regions.invariant.same) gives) in
+      let appended : c.append.new.self.items ≡ c.regions.waiting.items ++ c.in-Some.segments.items = search rules in
+      let waits = subst (λ (waiting : List Segment). SweptPairs (g.F.Folder.state c.args.folder.now).content c.args.dir.now c.next_by.new.self c.regions.pairs.keys waiting) (sym appended) next in
+      let none : c.compare.new.waiting.items ≡ [] = search rules in
+      subst (λ (waiting : List Segment). SweptPairs (g.F.Folder.state c.args.folder.now).content c.args.dir.now c.next_by.new.self c.compare.new.pairs.keys waiting) (sym none)
+      (SweptPairs-compared (g.F.Folder.state c.args.folder.now).content c.args.dir.now c.next_by.new.self c.regions.pairs.keys c.compare.new.pairs.keys c.append.new.self.items waits c.in_ok-compare.ensures.added);
+  fresh = c.in_ok-segments.ensures.next.unrefused;
+  same = c.in_ok-segments.ensures.same ∙ c.regions.invariant.same;
+  later = omega (arith, c.in_ok-segments.ensures.later, c.regions.invariant.later);
+}
+
+pub regions-preserved-then-number-limit : goal.regions-preserved-then-number-limit
+regions-preserved-then-number-limit g c = record {
+  swept =
+      let swept = c.regions.invariant.swept in
+      let now = subst (λ (t : Option Content). HasSwept FORMAT t c.args.dir.now c.regions.sweep swept.trace) (sym (same_content c.regions.invariant.same)) swept.swept in
+      let gives = rw c.in-Some.is at (c.in_ok-segments.ensures.next.region FORMAT c.args.dir.now swept.trace now) in
+      let next = SweptPairs-next (g.F.Folder.state c.args.folder.now).content c.args.dir.now c.regions.sweep c.next_by.new.self c.regions.pairs.keys c.regions.waiting.items c.in-Some.segments.items swept
+      (subst (λ (t : Option Content). GivesRegion FORMAT t c.args.dir.now c.regions.sweep c.next_by.new.self swept.trace c.in-Some.segments.items) (same_content c.regions.invariant.same) gives) in
+      let appended : c.append.new.self.items ≡ c.regions.waiting.items ++ c.in-Some.segments.items = search rules in
+      let waits = subst (λ (waiting : List Segment). SweptPairs (g.F.Folder.state c.args.folder.now).content c.args.dir.now c.next_by.new.self c.regions.pairs.keys waiting) (sym appended) next in
+      waits;
   fresh = c.in_ok-segments.ensures.next.unrefused;
   same = c.in_ok-segments.ensures.same ∙ c.regions.invariant.same;
   later = omega (arith, c.in_ok-segments.ensures.later, c.regions.invariant.later);
@@ -47,5 +69,5 @@ returns-clause-pairs g c =
     let swept = c.regions.invariant.swept in
     let now = subst (λ (t : Option Content). HasSwept FORMAT t c.args.dir.now c.regions.sweep swept.trace) (sym (same_content c.regions.invariant.same)) swept.swept in
     let all = (c.in_ok-segments.ensures.next.all FORMAT c.args.dir.now swept.trace now c.in_default.is).1 in
-    SweptPairs-all (g.F.Folder.state c.args.folder.now).content c.args.dir.now c.regions.sweep c.regions.pairs.keys swept
-    (subst (λ (t : Option Content). HasSweptAll FORMAT t c.args.dir.now c.regions.sweep swept.trace) (same_content c.regions.invariant.same) all) (search rules)
+    SweptPairs-all (g.F.Folder.state c.args.folder.now).content c.args.dir.now c.regions.sweep c.regions.pairs.keys c.compare-2.new.pairs.keys c.regions.waiting.items swept
+    (subst (λ (t : Option Content). HasSweptAll FORMAT t c.args.dir.now c.regions.sweep swept.trace) (same_content c.regions.invariant.same) all) c.in_ok-compare-2.ensures.added (search rules)

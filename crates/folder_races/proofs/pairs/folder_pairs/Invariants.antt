@@ -6,7 +6,7 @@ use Rattle.folder_races.proofs.pairs.folder_pairs.Given as goal
 
 abbrev pub invariant-regions : goal.invariant-regions
 invariant-regions g l = record {
-  swept : SweptPairs (g.F.Folder.state l.fn.folder).content l.dir l.sweep l.pairs.keys;
+  swept : SweptPairs (g.F.Folder.state l.fn.folder).content l.dir l.sweep l.pairs.keys l.waiting.items;
   fresh : (e : WalkFault) → HasRefused l.sweep e → ⊥;
   same : g.F.Folder.state l.folder ≡ g.F.Folder.state l.fn.folder;
   later : g.F.Folder.read_faults l.fn.folder ≤ g.F.Folder.read_faults l.folder;
