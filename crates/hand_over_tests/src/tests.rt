@@ -46,8 +46,7 @@ fn answer<R: Wait>(
     ensures table { place.new.table ≡ place.old.table }
     ensures none { place.new.took ≡ None }
 {
-    let count = parcels.take(rt, place)?;
-    let value = count.value;
+    let value = parcels.take(rt, place)?.value;
     parcels.give_back(
         place,
         Count {
@@ -75,13 +74,11 @@ fn there_and_back<R: Wait>(
 }
 
 #[test]
-fn a_parcel_goes_and_what_follows_it_comes_back(rt: HostRuntime) -> Result<(), Fail> {
-    let (parcels, desk, mut places) = Parcels::<Count>::new(rt.alloc(), 2, &())?;
-    let Some(place) = places.pop() else {
-        return Err(Fail::from("no place"));
-    };
+fn a_parcel_goes_and_what_follows_it_comes_back(rt: HostRuntime) {
+    let made = Parcels::<Count>::new(rt.alloc(), 2, &());
+    let (parcels, desk, mut places) = made.expect(&rt, "memory");
+    let place = places.pop().expect(&rt, "a place");
     assert!(rt; there_and_back(&rt, &parcels, desk, place) == (Some(7), 9, None));
-    Ok(())
 }
 
 // Answers all parcels of a lane, until it is closed.
@@ -241,15 +238,14 @@ fn each_lane_answers_a_thousand_parcels(rt: HostRuntime) -> Result<(), Fail> {
 }
 
 #[test]
-fn a_lane_that_was_never_used_is_closed(rt: HostRuntime) -> Result<(), Fail> {
-    let (parcels, mut desk, mut places) = Parcels::<Count>::new(rt.alloc(), 1, &())?;
+fn a_lane_that_was_never_used_is_closed(rt: HostRuntime) {
+    let made = Parcels::<Count>::new(rt.alloc(), 1, &());
+    let (parcels, mut desk, mut places) = made.expect(&rt, "memory");
     parcels.close(&mut desk, 0);
-    let Some(mut place) = places.pop() else {
-        return Err(Fail::from("no place"));
-    };
-    assert!(rt; answer(&rt, &parcels, &mut place, 1).is_none());
-    assert!(rt; answer(&rt, &parcels, &mut place, 1).is_none());
-    Ok(())
+    let mut place = places.pop().expect(&rt, "a place");
+    let first = answer(&rt, &parcels, &mut place, 1).is_none();
+    let second = answer(&rt, &parcels, &mut place, 1).is_none();
+    assert!(rt; first && second);
 }
 
 /// What is shared with others.
@@ -267,15 +263,15 @@ impl Parcel for Held {
 }
 
 #[test]
-fn a_parcel_on_the_way_is_dropped_once(rt: HostRuntime) -> Result<(), Fail> {
-    let shared = Arc::new(rt.alloc(), 7u8)?;
-    let (parcels, mut desk, _places) = Parcels::<Held>::new(rt.alloc(), 1, &())?;
+fn a_parcel_on_the_way_is_dropped_once(rt: HostRuntime) {
+    let shared = Arc::new(rt.alloc(), 7u8).expect(&rt, "memory");
+    let made = Parcels::<Held>::new(rt.alloc(), 1, &());
+    let (parcels, mut desk, _places) = made.expect(&rt, "memory");
     let held = Held {
-        _shared: Arc::try_clone(&shared)?,
+        _shared: Arc::try_clone(&shared).expect(&rt, "memory"),
     };
     parcels.send(&mut desk, 0, held);
-    assert!(rt; Arc::strong_count(&shared) == 2);
+    let before = Arc::strong_count(&shared);
     drop(parcels);
-    assert!(rt; Arc::strong_count(&shared) == 1);
-    Ok(())
+    assert!(rt; [before, Arc::strong_count(&shared)] == [2, 1]);
 }

@@ -4,12 +4,11 @@
 //! says what its lanes do, and learns it of the whole team.
 #![tactic(auto)]
 
+#[cfg(test)]
 mod counting;
+#[cfg(test)]
 mod nesting;
+#[cfg(test)]
 mod telling;
 #[cfg(test)]
 mod tests;
-
-pub use counting::counted;
-pub use nesting::{Tally, nested};
-pub use telling::{About, Counting, Seen, count_phases};

@@ -1,7 +1,6 @@
 //! Teams of numbers on threads that stay.
-ghost use Rattle.std.specs.Prelude.{◌≤◌, length};
-
-use crate::{counted, nested};
+use crate::counting::counted;
+use crate::nesting::nested;
 use meeting_gate::MeetingGate;
 use std::alloc::{AllocError, Global};
 use std::marker::{Brand, Send};
@@ -10,61 +9,75 @@ use std::sync::atomic::{AtomicU64, Ordering};
 use std::test::Fail;
 use std::thread::{Builder, Threads};
 use sw_base::Gate;
-use team_live::{LiveGate, in_phases};
+use team_live::in_phases;
 
-/// How often the thread of each lane started, and how often each lane entered a phase.
+/// How often the thread of a lane started, and how often the lane entered a phase.
+#[derive(Drop)]
+struct Count {
+    started: AtomicU64,
+    entered: AtomicU64,
+}
+
+/// What each lane did, and where all are to meet in their first phase, if they are.
 #[derive(Drop)]
 struct Counts {
-    started: Vec<AtomicU64>,
-    entered: Vec<AtomicU64>,
-}
-
-// As many zeros.
-fn zeros(alloc: Global, count: usize) -> Result<Vec<AtomicU64>, AllocError> {
-    let mut zeros = Vec::new(alloc);
-    for _ in 0..count {
-        zeros.push(AtomicU64::new(0))?;
-    }
-    Ok(zeros)
-}
-
-// One more at this place.
-fn tick(counts: &[AtomicU64], place: usize) {
-    if let Some(count) = counts.get(place) {
-        count.fetch_add(1, Ordering::SeqCst);
-    }
+    lanes: Vec<Count>,
+    meeting: Option<MeetingGate>,
 }
 
 impl Counts {
-    fn new(alloc: Global, lanes: usize) -> Result<Counts, AllocError> {
-        Ok(Counts {
-            started: zeros(alloc, lanes)?,
-            entered: zeros(alloc, lanes)?,
-        })
+    fn new(
+        alloc: Global,
+        lanes: usize,
+        meeting: Option<MeetingGate>,
+    ) -> Result<Counts, AllocError> {
+        let mut counts = Counts {
+            lanes: Vec::new(alloc),
+            meeting,
+        };
+        for _ in 0..lanes {
+            counts.lanes.push(Count {
+                started: AtomicU64::new(0),
+                entered: AtomicU64::new(0),
+            })?;
+        }
+        Ok(counts)
+    }
+
+    fn start(&self, lane: usize) {
+        if let Some(count) = self.lanes.get(lane) {
+            count.started.fetch_add(1, Ordering::SeqCst);
+        }
+    }
+
+    fn meet(&self, lane: usize) {
+        if let Some(meeting) = &self.meeting {
+            meeting.enter(lane);
+        }
     }
 
     // Whether so many lanes had a thread, from the second on, and each lane entered so many phases.
     fn are(&self, threads: usize, phases: u64) -> bool {
-        let each_once = self.started.iter().enumerate().all(|(lane, count)| count.load(
-            Ordering::SeqCst,
-        ) == u64::from(0 < lane && lane <= threads));
-        each_once
-            && self
-                .entered
-                .iter()
-                .all(|count| count.load(Ordering::SeqCst) == phases)
+        self.lanes.iter().enumerate().all(|(lane, count)| {
+            let started = count.started.load(Ordering::SeqCst);
+            let entered = count.entered.load(Ordering::SeqCst);
+            started == u64::from(0 < lane && lane <= threads) && entered == phases
+        })
+    }
+
+    fn have_met(&self) -> bool {
+        match &self.meeting {
+            Some(meeting) => meeting.have_met(),
+            None => false,
+        }
     }
 }
 
 impl Gate for Counts {
     fn enter(&self, number: usize) {
-        tick(self.entered.as_slice(), number);
-    }
-}
-
-impl LiveGate for Counts {
-    fn started(&self, lane: usize) {
-        tick(self.started.as_slice(), lane);
+        if let Some(count) = self.lanes.get(number) {
+            count.entered.fetch_add(1, Ordering::SeqCst);
+        }
     }
 }
 
@@ -119,9 +132,12 @@ fn team<R: Threads + Wait + Copy + Send + Sync + 'static>(
         lanes,
         &|number: usize, index: usize, lane: &mut u64| {
             gate.enter(index);
+            if number == 0 {
+                gate.meet(index);
+            }
             *lane = with_digit(*lane, (number as u64).wrapping_add(1));
         },
-        &|index: usize| gate.started(index),
+        &|index: usize| gate.start(index),
         &|index: usize| builder(refused, index),
         &|hand: &mut u64, _lanes: &mut Vec<u64>| *hand = with_digit(*hand, 1),
         &|hand: &mut u64, _lanes: &mut Vec<u64>| -> bool {
@@ -138,7 +154,7 @@ fn holds<R: Threads + Wait + Copy + Send + Sync + 'static>(
     case: &Case,
     stays: bool,
 ) -> Result<bool, AllocError> {
-    let gate = Counts::new(alloc, case.lanes)?;
+    let gate = Counts::new(alloc, case.lanes, None)?;
     let (hand, lanes, whole) = team(rt, alloc, &gate, case, stays)?;
     let each = lanes.iter().all(|lane| *lane == case.lane);
     let threads = if stays { case.threads } else { 0 };
@@ -261,41 +277,18 @@ fn lanes_do_their_phases_in_order_on_threads_that_start_once(rt: HostRuntime) ->
     Ok(())
 }
 
-// A team of two phases, in the first of which each lane waits in the gate until all are there.
-fn met<R: Threads + Wait + Copy + Send + Sync + 'static>(
-    rt: &R,
-    alloc: Global,
-    gate: &MeetingGate,
-    lanes: Vec<u64>,
-) -> bool
-    requires { (1 ≤ length lanes.items) × (length lanes.items ≤ 64) }
-{
-    let (_, _, whole) = in_phases::<Brand, R, (), u64, _, _, _, _, _>(
-        rt,
-        alloc,
-        true,
-        2,
-        (),
-        lanes,
-        &|number: usize, index: usize, _lane: &mut u64| {
-            if number == 0 {
-                gate.enter(index);
-            }
-        },
-        &|_index: usize| {},
-        &|index: usize| builder(0, index),
-        &|_hand: &mut (), _lanes: &mut Vec<u64>| {},
-        &|_hand: &mut (), _lanes: &mut Vec<u64>| -> bool { true },
-    );
-    whole && gate.have_met()
-}
+// As many lanes as there may be, in two phases.
+const CROWD: Case = Case {
+    lanes: 64,
+    phases: 2,
+    ..FOUR
+};
 
 #[test]
 fn lanes_run_at_once(rt: HostRuntime) -> Result<(), Fail> {
-    let mut lanes = Vec::new(rt.alloc());
-    lanes.resize(64, 0u64)?;
-    let gate = MeetingGate::new(64);
-    assert!(rt; met(&rt, rt.alloc(), &gate, lanes));
+    let gate = Counts::new(rt.alloc(), 64, Some(MeetingGate::new(64)))?;
+    let (_, _, whole) = team(&rt, rt.alloc(), &gate, &CROWD, true)?;
+    assert!(rt; whole && gate.have_met());
     Ok(())
 }
 
@@ -311,7 +304,7 @@ fn each_lane_counts_the_phases(rt: HostRuntime) -> Result<(), Fail> {
 // A team of four, in each of whose three phases each lane runs such a team, as does each of theirs: 157 teams.
 #[test]
 fn teams_nest(rt: HostRuntime) -> Result<(), Fail> {
-    let gate = Counts::new(rt.alloc(), 4)?;
+    let gate = Counts::new(rt.alloc(), 4, None)?;
     let Some(after) = nested::<_, u64, _>(&rt, rt.alloc(), 2, 4, &gate) else {
         return Err(Fail::from("no memory"));
     };

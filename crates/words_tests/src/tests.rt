@@ -1,12 +1,13 @@
 //! Hands on words and on counters, alone and on threads.
-ghost use Rattle.std.specs.Prelude.{◌≡◌, ◌<◌, ◌≤◌, [], IfOk};
+ghost use Rattle.std.specs.Prelude.{◌≡◌, ◌<◌, ◌≤◌, []};
 ghost use denote.Param.Send.{IsSync};
 ghost use Rattle.shared_words.specs.Handles.{Belongs, IsFree};
 ghost use Rattle.shared_words.specs.Draws.{whole_share};
 
 use shared_words::{ChunkHand, Chunks, Hand, Words};
-use std::alloc::{AllocError, Global};
+use std::alloc::Global;
 use std::sync::Wait;
+use std::sync::atomic::{AtomicU64, Ordering};
 use std::test::Fail;
 use std::thread::{Threads, join};
 
@@ -108,27 +109,22 @@ fn add_in_threads<R: Threads + Wait + Sync>(
     hand
 }
 
-// Draws until there is no chunk left, and keeps the numbers.
-fn draw_chunks(
-    alloc: Global,
-    chunks: &Chunks,
-    mut hand: ChunkHand,
-) -> Result<(ChunkHand, Vec<u64>), AllocError>
+// Draws until there is no chunk left, and counts how often each number was drawn.
+fn draw_chunks(chunks: &Chunks, mut hand: ChunkHand, drawn: &[AtomicU64]) -> ChunkHand
     requires hand { Belongs hand chunks.now.table }
     requires loops { 0 < chunks.now.loops }
     requires left { 10000 < hand.view.left }
-    ensures hand { IfOk result (λ r. Belongs r.0 chunks.now.table) }
-    ensures first { IfOk result (λ r. r.0.view.first ≡ hand.view.first) }
+    ensures hand { Belongs result chunks.now.table }
+    ensures first { result.view.first ≡ hand.view.first }
 {
-    let mut drawn = Vec::new(alloc);
     for _round in 0..=CHUNKS {
         let number = chunks.draw(&mut hand, 0);
-        if number >= CHUNKS {
+        let Some(times) = drawn.get(number as usize) else {
             break;
-        }
-        drawn.push(number)?;
+        };
+        times.fetch_add(1, Ordering::SeqCst);
     }
-    Ok((hand, drawn))
+    hand
 }
 
 #[test]
@@ -139,7 +135,7 @@ fn one_hand_finds_what_it_stored(rt: HostRuntime) -> Result<(), Fail> {
     let after = words.load(&mut hand, 3);
     let closed = words.close(hand);
     assert!(rt; before == 0 && after == 7);
-    assert_eq!(rt; closed.words.as_slice(), [0, 0, 0, 7].as_slice());
+    assert!(rt; closed.words.as_slice() == [0, 0, 0, 7].as_slice());
     Ok(())
 }
 
@@ -155,7 +151,7 @@ fn mutexes_nest_in_both_orders(rt: HostRuntime) -> Result<(), Fail> {
     words.unlock(&mut hand, 0);
     words.unlock(&mut hand, 1);
     let closed = words.close(hand);
-    assert_eq!(rt; closed.words.as_slice(), [0].as_slice());
+    assert!(rt; closed.words.as_slice() == [0].as_slice());
     Ok(())
 }
 
@@ -170,53 +166,64 @@ fn hands_split_inside_a_split(rt: HostRuntime) -> Result<(), Fail> {
     words.store(&mut one, 0, found.wrapping_add(1));
     words.join(&mut hand, one);
     let closed = words.close(hand);
-    assert_eq!(rt; closed.words.as_slice(), [6, 5].as_slice());
+    assert!(rt; closed.words.as_slice() == [6, 5].as_slice());
     Ok(())
 }
 
+// Whether each of these is within the bounds.
+fn are_within(sums: &[u64], least: u64, most: u64) -> bool {
+    for sum in sums {
+        if *sum < least || most < *sum {
+            return false;
+        }
+    }
+    true
+}
+
+// Whether each of so many words has a sum within these bounds when so many threads have added to them.
+fn sums_are<R: Threads + Wait + Sync>(
+    rt: &R,
+    alloc: Global,
+    threads: usize,
+    width: usize,
+    adding: Adding,
+    least: u64,
+    most: u64,
+) -> Option<bool>
+    requires { (0 < width) × (width ≤ 8) }
+{
+    let (words, hand) = Words::new(alloc, width, 2).ok()?;
+    let hand = add_in_threads(rt, &words, hand, threads, width, adding);
+    let sums = words.close(hand).words;
+    Some(sums.len() == width && are_within(sums.as_slice(), least, most))
+}
+
 #[test]
-fn eight_threads_add_under_a_mutex(rt: HostRuntime) -> Result<(), Fail> {
-    let (words, hand) = Words::new(rt.alloc(), 1, 2)?;
-    let hand = add_in_threads(&rt, &words, hand, 8, 1, Adding::UnderMutex);
-    let closed = words.close(hand);
-    assert_eq!(rt; closed.words.as_slice(), [8 * ROUNDS].as_slice());
-    Ok(())
+fn eight_threads_add_under_a_mutex(rt: HostRuntime) {
+    let sum = 8 * ROUNDS;
+    assert!(rt; sums_are(&rt, rt.alloc(), 8, 1, Adding::UnderMutex, sum, sum) == Some(true));
 }
 
 // When one of two threads has ended nobody gives the mutex back again, so the other would sleep for ever at a free one.
 #[test]
-fn no_thread_sleeps_at_a_free_mutex(rt: HostRuntime) -> Result<(), Fail> {
+fn no_thread_sleeps_at_a_free_mutex(rt: HostRuntime) {
+    let sum = 2 * ROUNDS;
     for _ in 0..200 {
-        let (words, hand) = Words::new(rt.alloc(), 1, 2)?;
-        let hand = add_in_threads(&rt, &words, hand, 2, 1, Adding::UnderMutex);
-        let closed = words.close(hand);
-        assert_eq!(rt; closed.words.as_slice(), [2 * ROUNDS].as_slice());
+        assert!(rt; sums_are(&rt, rt.alloc(), 2, 1, Adding::UnderMutex, sum, sum) == Some(true));
     }
-    Ok(())
 }
 
 #[test]
-fn without_a_mutex_a_sum_may_be_lost(rt: HostRuntime) -> Result<(), Fail> {
-    let (words, hand) = Words::new(rt.alloc(), 1, 2)?;
-    let hand = add_in_threads(&rt, &words, hand, 8, 1, Adding::Unguarded);
-    let closed = words.close(hand);
-    let [sum] = closed.words.as_slice() else {
-        panic!(rt; "there is one word")
-    };
-    assert!(rt; 1 < *sum && *sum <= 8 * ROUNDS);
-    Ok(())
+fn without_a_mutex_a_sum_may_be_lost(rt: HostRuntime) {
+    let sum = 8 * ROUNDS;
+    assert!(rt; sums_are(&rt, rt.alloc(), 8, 1, Adding::Unguarded, 2, sum) == Some(true));
 }
 
 #[test]
-fn updates_of_many_threads_lose_nothing(rt: HostRuntime) -> Result<(), Fail> {
-    for width in [1, 8] {
-        let (words, hand) = Words::new(rt.alloc(), width, 2)?;
-        let hand = add_in_threads(&rt, &words, hand, 64, width, Adding::Updating);
-        let closed = words.close(hand);
-        let each = 64 * ROUNDS / width as u64;
-        assert!(rt; closed.words.len() == width && closed.words.iter().all(|word| *word == each));
+fn updates_of_many_threads_lose_nothing(rt: HostRuntime) {
+    for (width, sum) in [(1, 64 * ROUNDS), (8, 8 * ROUNDS)] {
+        assert!(rt; sums_are(&rt, rt.alloc(), 64, width, Adding::Updating, sum, sum) == Some(true));
     }
-    Ok(())
 }
 
 #[test]
@@ -230,51 +237,47 @@ fn an_update_wraps_past_the_end(rt: HostRuntime) -> Result<(), Fail> {
     words.update(&mut hand, 1, u64::MAX - 1);
     let closed = words.close(hand);
     assert!(rt; wrapped == 3 && below == u64::MAX);
-    assert_eq!(rt; closed.words.as_slice(), [3, u64::MAX - 2].as_slice());
+    assert!(rt; closed.words.as_slice() == [3, u64::MAX - 2].as_slice());
     Ok(())
 }
 
-fn draw_in_two<R: Threads + Sync>(
+fn draw_in_two<R: Threads>(
     rt: &R,
-    alloc: Global,
     chunks: &Chunks,
     one: ChunkHand,
     two: ChunkHand,
-) -> Result<(ChunkHand, ChunkHand, Vec<u64>), AllocError>
+    drawn: &[AtomicU64],
+) -> (ChunkHand, ChunkHand)
     requires one { Belongs one chunks.now.table }
     requires two { Belongs two chunks.now.table }
     requires loops { 0 < chunks.now.loops }
     requires left_one { 10000 < one.view.left }
     requires left_two { 10000 < two.view.left }
-    ensures one { IfOk result (λ r. Belongs r.0 chunks.now.table) }
-    ensures two { IfOk result (λ r. Belongs r.1 chunks.now.table) }
-    ensures first_one { IfOk result (λ r. r.0.view.first ≡ one.view.first) }
-    ensures first_two { IfOk result (λ r. r.1.view.first ≡ two.view.first) }
+    ensures one { Belongs result.0 chunks.now.table }
+    ensures two { Belongs result.1 chunks.now.table }
+    ensures first_one { result.0.view.first ≡ one.view.first }
+    ensures first_two { result.1.view.first ≡ two.view.first }
 {
-    let (front, back) = join(
+    join(
         rt,
-        || -> Result<(ChunkHand, Vec<u64>), AllocError>
+        || -> ChunkHand
             requires { Belongs one chunks.now.table × (0 < chunks.now.loops) × (10000 < one.view.left) }
-            ensures { IfOk result (λ r. Belongs r.0 chunks.entry.now.table × (r.0.view.first ≡ one.view.first)) }
-        { draw_chunks(alloc, chunks, one) },
-        || -> Result<(ChunkHand, Vec<u64>), AllocError>
+            ensures { Belongs result chunks.entry.now.table × (result.view.first ≡ one.view.first) }
+        { draw_chunks(chunks, one, drawn) },
+        || -> ChunkHand
             requires { Belongs two chunks.now.table × (0 < chunks.now.loops) × (10000 < two.view.left) }
-            ensures { IfOk result (λ r. Belongs r.0 chunks.entry.now.table × (r.0.view.first ≡ two.view.first)) }
-        { draw_chunks(alloc, chunks, two) },
-    );
-    let (one, mut drawn) = front?;
-    let (two, more) = back?;
-    drawn.extend_from_slice(more.as_slice())?;
-    Ok((one, two, drawn))
+            ensures { Belongs result chunks.entry.now.table × (result.view.first ≡ two.view.first) }
+        { draw_chunks(chunks, two, drawn) },
+    )
 }
 
 // Four threads draw, and the hand that was made with the counters gets back what the others drew.
 fn draw_in_four<R: Threads + Sync>(
     rt: &R,
-    alloc: Global,
     chunks: &Chunks,
     mut hand: ChunkHand,
-) -> Result<Vec<u64>, AllocError>
+    drawn: &[AtomicU64],
+)
     requires hand { Belongs hand chunks.now.table }
     requires loops { 0 < chunks.now.loops }
     requires new { hand.view ≡ whole_share }
@@ -282,38 +285,47 @@ fn draw_in_four<R: Threads + Sync>(
     let one = chunks.split(&mut hand);
     let two = chunks.split(&mut hand);
     let three = chunks.split(&mut hand);
-    let (front, back) = join(
+    let ((mut hand, one), (two, three)) = join(
         rt,
-        || -> Result<(ChunkHand, ChunkHand, Vec<u64>), AllocError>
+        || -> (ChunkHand, ChunkHand)
             requires { IsSync R.row × Belongs hand chunks.now.table × Belongs one chunks.now.table × (0 < chunks.now.loops) × (10000 < hand.view.left) × (10000 < one.view.left) }
-            ensures { IfOk result (λ r. Belongs r.0 chunks.entry.now.table × Belongs r.1 chunks.entry.now.table × (r.0.view.first ≡ hand.view.first) × (r.1.view.first ≡ one.view.first)) }
-        { draw_in_two(rt, alloc, chunks, hand, one) },
-        || -> Result<(ChunkHand, ChunkHand, Vec<u64>), AllocError>
+            ensures { Belongs result.0 chunks.entry.now.table × Belongs result.1 chunks.entry.now.table × (result.0.view.first ≡ hand.view.first) × (result.1.view.first ≡ one.view.first) }
+        { draw_in_two(rt, chunks, hand, one, drawn) },
+        || -> (ChunkHand, ChunkHand)
             requires { IsSync R.row × Belongs two chunks.now.table × Belongs three chunks.now.table × (0 < chunks.now.loops) × (10000 < two.view.left) × (10000 < three.view.left) }
-            ensures { IfOk result (λ r. Belongs r.0 chunks.entry.now.table × Belongs r.1 chunks.entry.now.table × (r.0.view.first ≡ two.view.first) × (r.1.view.first ≡ three.view.first)) }
-        { draw_in_two(rt, alloc, chunks, two, three) },
+            ensures { Belongs result.0 chunks.entry.now.table × Belongs result.1 chunks.entry.now.table × (result.0.view.first ≡ two.view.first) × (result.1.view.first ≡ three.view.first) }
+        { draw_in_two(rt, chunks, two, three, drawn) },
     );
-    let (mut hand, one, mut drawn) = front?;
-    let (two, three, more) = back?;
-    drawn.extend_from_slice(more.as_slice())?;
     chunks.join(&mut hand, one);
     chunks.join(&mut hand, two);
     chunks.join(&mut hand, three);
-    Ok(drawn)
+}
+
+// Whether each of these is 1.
+fn are_once(drawn: &[AtomicU64]) -> bool {
+    for times in drawn {
+        if times.load(Ordering::SeqCst) != 1 {
+            return false;
+        }
+    }
+    true
 }
 
 #[test]
 fn four_threads_draw_each_chunk_once(rt: HostRuntime) -> Result<(), Fail> {
+    let mut drawn = Vec::new(rt.alloc());
+    for _ in 0..CHUNKS {
+        drawn.push(AtomicU64::new(0))?;
+    }
     let (chunks, hand) = Chunks::new(rt.alloc(), 1)?;
-    let mut drawn = draw_in_four(&rt, rt.alloc(), &chunks, hand)?;
-    drawn.sort()?;
-    assert!(rt; drawn.iter().copied().eq(0..CHUNKS));
+    draw_in_four(&rt, &chunks, hand, drawn.as_slice());
+    assert!(rt; are_once(drawn.as_slice()));
     Ok(())
 }
 
 #[test]
-fn draws_count_from_zero(rt: HostRuntime) -> Result<(), Fail> {
-    let (chunks, mut hand) = Chunks::new(rt.alloc(), 2)?;
+fn draws_count_from_zero(rt: HostRuntime) {
+    let (chunks, mut hand) = Chunks::new(rt.alloc(), 2).expect(&rt, "memory");
     let first = chunks.draw(&mut hand, 1);
     let second = chunks.draw(&mut hand, 1);
     let mut other = chunks.split(&mut hand);
@@ -321,6 +333,9 @@ fn draws_count_from_zero(rt: HostRuntime) -> Result<(), Fail> {
     let elsewhere = chunks.draw(&mut other, 0);
     chunks.join(&mut hand, other);
     assert!(rt; [first, second, third, elsewhere] == [0, 1, 2, 0]);
+}
+
+#[test]
+fn counters_that_no_memory_holds_are_refused(rt: HostRuntime) {
     assert!(rt; Chunks::new(rt.alloc(), usize::MAX).is_err());
-    Ok(())
 }

@@ -1,46 +1,74 @@
 //! Each public call of a block with ample memory, and the sizes at which one more piece fits.
+ghost use Rattle.std.specs.Prelude.{◌≤◌};
 
 use event_block::{Block, block_is_sent};
-use std::test::Fail;
+use std::alloc::Global;
+use sw_base::Memory;
 
-// Pieces of 24 bytes, each of its own byte.
-fn piece(byte: u8) -> [u8; 24] {
-    [byte; 24]
+// Whether the block takes a piece of 24 bytes that are all this one.
+fn takes(block: &mut Block, byte: u8) -> bool {
+    block.push(&[byte; 24])
 }
 
-#[test]
-fn a_block_takes_pieces_while_they_fit(rt: HostRuntime) -> Result<(), Fail> {
-    let mut block = Block::new(rt.alloc(), 100)?;
-    assert!(rt; block.len() == 0);
-    for byte in 0..4 {
-        assert!(rt; block.push(&piece(byte)), "piece {byte}");
-    }
-    assert!(rt; !block.push(&piece(4)));
-    assert!(rt; block.len() == 96);
-    assert!(rt; block.size() == 100);
-    let held = block.bytes();
-    assert!(rt; held.len() == 96);
-    for place in 0..96 {
-        assert!(rt; held[place] == (place / 24) as u8, "at {place}");
-    }
-
-    block.clear();
-    assert!(rt; block.len() == 0);
-    assert!(rt; block.bytes() == [].as_slice());
-    assert!(rt; block.push(&piece(7)));
-    assert!(rt; block.bytes() == piece(7).as_slice());
-    Ok(())
+// Which of five pieces the block takes, of bytes from 0 on.
+fn take_five(block: &mut Block) -> [bool; 5] {
+    [
+        takes(block, 0),
+        takes(block, 1),
+        takes(block, 2),
+        takes(block, 3),
+        takes(block, 4),
+    ]
 }
 
-#[test]
-fn each_size_has_room_for_its_whole_pieces(rt: HostRuntime) -> Result<(), Fail> {
-    for (size, pieces) in [(24, 1), (25, 1), (47, 1), (48, 2), (4_194_304, 174_762)] {
-        let mut block = block_is_sent(Block::new(rt.alloc(), size)?);
-        for place in 0..pieces {
-            assert!(rt; block.push(&piece(1)), "size {size}, piece {place}");
+// Whether each piece of 24 bytes is of its number from 0 on.
+fn are_numbered(bytes: &[u8]) -> bool {
+    for (place, byte) in bytes.iter().enumerate() {
+        if usize::from(*byte) != place / 24 {
+            return false;
         }
-        assert!(rt; !block.push(&piece(1)), "size {size}");
-        assert_eq!(rt; block.len() / 24, pieces, "size {size}");
     }
-    Ok(())
+    true
+}
+
+#[test]
+fn a_block_takes_pieces_while_they_fit(rt: HostRuntime) {
+    let mut block = Block::new(rt.alloc(), 100).expect(&rt, "memory");
+    let before = block.len();
+    let taken = take_five(&mut block);
+    assert!(rt; taken == [true, true, true, true, false]);
+    assert!(rt; (before, block.len(), block.size()) == (0, 96, 100));
+    assert!(rt; block.bytes().len() == 96 && are_numbered(block.bytes()));
+}
+
+#[test]
+fn a_block_that_was_full_is_cleared(rt: HostRuntime) {
+    let mut block = Block::new(rt.alloc(), 100).expect(&rt, "memory");
+    let taken = take_five(&mut block);
+    block.clear();
+    let is_empty = block.len() == 0 && block.bytes().is_empty();
+    let is_taken = takes(&mut block, 7);
+    assert!(rt; taken == [true, true, true, true, false] && is_empty && is_taken);
+    assert!(rt; block.bytes() == [7; 24].as_slice());
+}
+
+// Whether a block of this size takes so many pieces, and no more.
+fn has_room_for(alloc: Global, size: usize, pieces: usize) -> Result<bool, Memory>
+    requires { (24 ≤ size) × (size ≤ 4194304) }
+{
+    let mut block = block_is_sent(Block::new(alloc, size)?);
+    for _ in 0..pieces {
+        if !takes(&mut block, 1) {
+            return Ok(false);
+        }
+    }
+    Ok(!takes(&mut block, 1) && block.len() / 24 == pieces)
+}
+
+#[test]
+fn each_size_has_room_for_its_whole_pieces(rt: HostRuntime) {
+    for (size, pieces) in [(24, 1), (25, 1), (47, 1), (48, 2), (4_194_304, 174_762)] {
+        let found = has_room_for(rt.alloc(), size, pieces);
+        assert!(rt; found == Ok(true), "size {size}");
+    }
 }

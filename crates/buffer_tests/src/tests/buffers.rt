@@ -1,16 +1,15 @@
 //! How logs are cut into pieces, and what stands in a log after each of its calls failed.
-ghost use Rattle.std.specs.Prelude.{◌≡◌, ◌≤◌, [], None, Some, IfOk};
+ghost use Rattle.std.specs.Prelude.{◌≡◌, ◌≤◌, [], None, Some, IfOk, OnOk};
 ghost use Rattle.sw_base.specs.Environment.{empty_text};
 ghost use Rattle.memory_environment.specs.MemLog.{path_of, text_of, faults_of};
 
 use event_buffer::{Buffer, BufferFault};
 use log_format::{Kind, Record, encode};
 use memory_environment::{MemFolder, MemLog};
-use std::alloc::Global;
+use std::alloc::{AllocError, Global};
 use std::marker::Send;
 use std::sync::atomic::{AtomicU64, Ordering};
 use std::sync::{Arc, Wait};
-use std::test::Fail;
 use std::thread;
 use std::thread::Threads;
 use sw_base::{Folder, LOG_HEADER, Log, Path, Trouble};
@@ -76,7 +75,7 @@ fn barrier(line: u32) -> Record {
 }
 
 // The bytes of a log of the records of the lines from 1 to this one.
-fn log_of(alloc: Global, last: u32) -> Result<Vec<u8>, Fail> {
+fn log_of(alloc: Global, last: u32) -> Result<Vec<u8>, AllocError> {
     let mut bytes = LOG_HEADER.to_vec(alloc)?;
     for line in 0..last {
         bytes.extend_from_slice(&encode(&barrier(line + 1)))?;
@@ -85,55 +84,26 @@ fn log_of(alloc: Global, last: u32) -> Result<Vec<u8>, Fail> {
 }
 
 // The log of the root task of a new folder, whose calls of these numbers fail.
-fn root(alloc: Global, failing: &[u64]) -> Result<MemLog, Fail>
+fn root(alloc: Global, failing: &[u64]) -> Result<MemLog, Trouble>
     ensures path { IfOk result (λ log. path_of log ≡ []) }
     ensures text { IfOk result (λ log. text_of log ≡ Some empty_text) }
     ensures faults { IfOk result (λ log. faults_of log ≡ 0) }
 {
     let mut folder = MemFolder::new(alloc)?;
     folder.fail_log(&Path::root(), failing)?;
-    Ok(folder.root(alloc, "d")?)
+    folder.root(alloc, "d")
 }
 
-// What a task left.
+// What a task left: why it was refused, how many records it put, and its log.
 #[derive(Drop)]
-struct Left {
+struct Left<L> {
     refused: Option<Trouble>,
     put: u32,
-    log: MemLog,
-}
-
-// Puts so many records through a buffer of this size, as far as the log takes them, where its calls of these numbers fail.
-fn put_through<R: Threads + Wait + Copy + Send + 'static>(
-    rt: &R,
-    alloc: Global,
-    failing: &[u64],
-    size: usize,
-    records: u32,
-) -> Result<Left, Fail>
-    requires { (24 ≤ size) × (size ≤ 4194304) }
-{
-    let mut buffer = match Buffer::start(rt, alloc, root(alloc, failing)?, size) {
-        Ok(buffer) => buffer,
-        Err((trouble, log)) => {
-            return Ok(Left {
-                refused: Some(trouble),
-                put: 0,
-                log,
-            });
-        }
-    };
-    for line in 0..records {
-        if buffer.ready(rt, alloc).is_err() {
-            break;
-        }
-        buffer.put(&barrier(line + 1));
-    }
-    Ok(closed(rt, alloc, buffer))
+    log: L,
 }
 
 // What a task leaves whose buffer is closed.
-fn closed<R: Wait>(rt: &R, alloc: Global, buffer: Buffer<MemLog>) -> Left {
+fn closed<L: Log, R: Wait>(rt: &R, alloc: Global, buffer: Buffer<L>) -> Left<L> {
     let put = buffer.count();
     match buffer.close(rt, alloc) {
         Ok(log) => Left {
@@ -149,185 +119,327 @@ fn closed<R: Wait>(rt: &R, alloc: Global, buffer: Buffer<MemLog>) -> Left {
     }
 }
 
+// Makes room for a record of this line, and puts it.
+fn add<L: Log, R: Threads + Wait + Copy + Send + 'static>(
+    rt: &R,
+    alloc: Global,
+    buffer: &mut Buffer<L>,
+    line: u32,
+) -> Result<(), BufferFault>
+    ensures path { buffer.new.path ≡ buffer.old.path }
+    ensures unrefused { OnOk result (buffer.new.refused ≡ None) }
+{
+    buffer.ready(rt, alloc)?;
+    buffer.put(&barrier(line));
+    Ok(())
+}
+
+// Puts records of the lines from 1 to this one, as far as they are taken.
+fn fill<L: Log, R: Threads + Wait + Copy + Send + 'static>(
+    rt: &R,
+    alloc: Global,
+    buffer: &mut Buffer<L>,
+    last: u32,
+) {
+    for line in 0..last {
+        if add(rt, alloc, buffer, line + 1).is_err() {
+            break;
+        }
+    }
+}
+
+// What a task leaves that puts so many records through a buffer of this size, as far as the log takes them, where its calls of these
+// numbers fail.
+fn put_through<R: Threads + Wait + Copy + Send + 'static>(
+    rt: &R,
+    alloc: Global,
+    failing: &[u64],
+    size: usize,
+    records: u32,
+) -> Result<Left<MemLog>, Trouble>
+    requires { (24 ≤ size) × (size ≤ 4194304) }
+{
+    match Buffer::start(rt, alloc, root(alloc, failing)?, size) {
+        Ok(mut buffer) => {
+            fill(rt, alloc, &mut buffer, records);
+            Ok(closed(rt, alloc, buffer))
+        }
+        Err((trouble, log)) => Ok(Left {
+            refused: Some(trouble),
+            put: 0,
+            log,
+        }),
+    }
+}
+
+// Why a task was refused, how many records it put, how many pieces and bytes its log has, and whether they are those that were due.
+type Seen = (Option<Trouble>, u32, usize, usize, bool);
+
+// What is seen of what a task left, where pieces of these lengths were due, and the bytes of so many records.
+fn seen(
+    alloc: Global,
+    left: &Left<MemLog>,
+    lengths: &[usize],
+    records: u32,
+) -> Result<Seen, Trouble> {
+    let bytes = log_of(alloc, records)?;
+    let log = &left.log;
+    let are_due = lengths.starts_with(log.lengths()) && bytes.starts_with(log.bytes());
+    let pieces = log.lengths().len();
+    Ok((left.refused, left.put, pieces, log.bytes().len(), are_due))
+}
+
+// The same of a task that puts so many records through a buffer of this size, where this call on its log fails.
+fn seen_failing<R: Threads + Wait + Copy + Send + 'static>(
+    rt: &R,
+    alloc: Global,
+    call: u64,
+    size: usize,
+    records: u32,
+    lengths: &[usize],
+) -> Result<Seen, Trouble>
+    requires { (24 ≤ size) × (size ≤ 4194304) }
+{
+    let left = put_through(rt, alloc, &[call], size, records)?;
+    seen(alloc, &left, lengths, records)
+}
+
 #[test]
-fn pieces_fill_the_block(rt: HostRuntime) -> Result<(), Fail> {
-    let alloc = rt.alloc();
+fn pieces_fill_the_block(rt: HostRuntime) {
     let single: &[usize] = &[8, 24, 24, 24, 24, 24, 24, 24, 24, 24, 24];
     let double: &[usize] = &[8, 48, 48, 48, 48, 48];
     let four: &[usize] = &[8, 96, 96, 48];
     let whole: &[usize] = &[8, 240];
     let many: &[usize] = &[8, 16_368, 16_368, 3264];
-    for (size, records, lengths) in [
-        (24, 10, single),
-        (25, 10, single),
-        (47, 10, single),
-        (48, 10, double),
-        (100, 10, four),
-        (16_384, 1500, many),
-        (4_194_304, 10, whole),
+    for (size, records, lengths, bytes) in [
+        (24, 10, single, 248),
+        (25, 10, single, 248),
+        (47, 10, single, 248),
+        (48, 10, double, 248),
+        (100, 10, four, 248),
+        (16_384, 1500, many, 36_008),
+        (4_194_304, 10, whole, 248),
     ] {
-        let left = put_through(&rt, alloc, &[], size, records)?;
-        assert!(rt; left.refused.is_none(), "size {size}");
-        assert!(rt; left.put == records, "size {size}");
-        assert!(rt; left.log.lengths() == lengths, "size {size}");
-        assert!(rt;
-            left.log.bytes() == log_of(alloc, records)?.as_slice(),
-            "size {size}"
-        );
+        let found = seen_failing(&rt, rt.alloc(), 0, size, records, lengths);
+        let due = (None, records, lengths.len(), bytes, true);
+        assert!(rt; found == Ok(due), "size {size}");
     }
-    Ok(())
 }
 
 #[test]
-fn a_prefix_stands_after_each_call_that_fails(rt: HostRuntime) -> Result<(), Fail> {
-    let alloc = rt.alloc();
-    let all = log_of(alloc, 2100)?;
-    let small: &[usize] = &[8, 48, 48, 48, 48];
-    let large: &[usize] = &[8, 16_368, 16_368, 16_368];
+fn a_prefix_stands_after_each_call_that_fails(rt: HostRuntime) {
+    let small: &[usize] = &[8, 48, 48, 48, 48, 48];
+    let large: &[usize] = &[8, 16_368, 16_368, 16_368, 1296];
+    let failed = Some(Trouble::Failed);
     // A lane appends small blocks by itself, and large ones are appended by its writer.
-    for (size, records, lengths, call, put, pieces, bytes) in [
-        (48, 10, small, 1, 0, 0, 4),
-        (48, 10, small, 2, 4, 1, 32),
-        (48, 10, small, 3, 6, 2, 80),
-        (48, 10, small, 4, 8, 3, 128),
-        (48, 10, small, 5, 10, 4, 176),
-        (48, 10, small, 6, 10, 5, 224),
-        (16_384, 2100, large, 1, 0, 0, 4),
-        (16_384, 2100, large, 2, 1364, 1, 8192),
-        (16_384, 2100, large, 3, 2046, 2, 24_560),
-        (16_384, 2100, large, 4, 2100, 3, 40_928),
-        (16_384, 2100, large, 5, 2100, 4, 49_760),
+    for (size, records, lengths, call, due) in [
+        (48, 10, small, 1, (failed, 0, 0, 4, true)),
+        (48, 10, small, 2, (failed, 4, 1, 32, true)),
+        (48, 10, small, 3, (failed, 6, 2, 80, true)),
+        (48, 10, small, 4, (failed, 8, 3, 128, true)),
+        (48, 10, small, 5, (failed, 10, 4, 176, true)),
+        (48, 10, small, 6, (failed, 10, 5, 224, true)),
+        (48, 10, small, 7, (None, 10, 6, 248, true)),
+        (16_384, 2100, large, 1, (failed, 0, 0, 4, true)),
+        (16_384, 2100, large, 2, (failed, 1364, 1, 8192, true)),
+        (16_384, 2100, large, 3, (failed, 2046, 2, 24_560, true)),
+        (16_384, 2100, large, 4, (failed, 2100, 3, 40_928, true)),
+        (16_384, 2100, large, 5, (failed, 2100, 4, 49_760, true)),
+        (16_384, 2100, large, 6, (None, 2100, 5, 50_408, true)),
     ] {
-        let left = put_through(&rt, alloc, &[call], size, records)?;
-        assert!(rt; left.refused == Some(Trouble::Failed), "call {call}");
-        assert!(rt; left.put == put, "call {call}");
-        assert!(rt; left.log.lengths().len() == pieces, "call {call}");
-        assert!(rt; lengths.starts_with(left.log.lengths()), "call {call}");
-        assert!(rt; left.log.bytes().len() == bytes, "call {call}");
-        assert!(rt; all.starts_with(left.log.bytes()), "call {call}");
+        let found = seen_failing(&rt, rt.alloc(), call, size, records, lengths);
+        assert!(rt; found == Ok(due), "size {size}, call {call}");
     }
-    assert!(rt; put_through(&rt, alloc, &[7], 48, 10)?.refused.is_none());
-    assert!(rt;
-        put_through(&rt, alloc, &[6], 16_384, 2100)?
-            .refused
-            .is_none()
-    );
-    Ok(())
+}
+
+// A buffer with room for one record, before the log of a root whose calls of these numbers fail.
+fn buffer_of<R: Threads>(rt: &R, alloc: Global, failing: &[u64]) -> Result<Buffer<MemLog>, Trouble>
+    ensures { IfOk result (λ buffer. buffer.path ≡ []) }
+{
+    match Buffer::start(rt, alloc, root(alloc, failing)?, 24) {
+        Ok(buffer) => Ok(buffer),
+        Err((trouble, _)) => Err(trouble),
+    }
+}
+
+// What a buffer answers that is made ready.
+fn made_ready<L: Log, R: Threads + Wait + Copy + Send + 'static>(
+    rt: &R,
+    alloc: Global,
+    buffer: &mut Buffer<L>,
+) -> Result<(), BufferFault> {
+    buffer.ready(rt, alloc)
 }
 
 #[test]
-fn a_refusal_is_repeated(rt: HostRuntime) -> Result<(), Fail> {
+fn a_refusal_is_repeated(rt: HostRuntime) {
     let alloc = rt.alloc();
     let failed = Err(BufferFault::Trouble(Trouble::Failed));
-    let Ok(mut buffer) = Buffer::start(&rt, alloc, root(alloc, &[2])?, 24) else {
-        return Err(Fail::from(Trouble::Memory));
-    };
-    buffer.ready(&rt, alloc)?;
-    buffer.put(&barrier(1));
-    buffer.ready(&rt, alloc)?;
-    buffer.put(&barrier(2));
-    assert!(rt; buffer.ready(&rt, alloc) == failed);
-    assert!(rt; buffer.ready(&rt, alloc) == failed);
+    let mut buffer = buffer_of(&rt, alloc, &[2]).expect(&rt, "memory");
+    let answers = [
+        add(&rt, alloc, &mut buffer, 1),
+        add(&rt, alloc, &mut buffer, 2),
+        made_ready(&rt, alloc, &mut buffer),
+        made_ready(&rt, alloc, &mut buffer),
+    ];
     let left = closed(&rt, alloc, buffer);
-    assert!(rt; left.refused == Some(Trouble::Failed));
-    assert!(rt; left.put == 2);
-    assert!(rt; left.log.lengths() == [8].as_slice());
-    assert!(rt; left.log.bytes().len() == 20);
-    assert!(rt; log_of(alloc, 1)?.starts_with(left.log.bytes()));
-    Ok(())
+    assert!(rt; answers == [Ok(()), Ok(()), failed, failed]);
+    let due = (Some(Trouble::Failed), 2, 1, 20, true);
+    assert!(rt; seen(alloc, &left, &[8], 1) == Ok(due));
+}
+
+// What is told of a counter of this room after so many records were put into a buffer of this size: the answers to two calls more,
+// why it was refused in the end, and how many records were put and pieces and bytes counted.
+fn counted<R: Threads + Wait + Copy + Send + 'static>(
+    rt: &R,
+    alloc: Global,
+    room: u32,
+    size: usize,
+    records: u32,
+) -> Option<([Result<(), BufferFault>; 2], Option<Trouble>, u32, u32, u64)>
+    requires { (24 ≤ size) × (size ≤ 4194304) }
+{
+    let mut buffer = Buffer::start(rt, alloc, Counter::with_room(room), size).ok()?;
+    fill(rt, alloc, &mut buffer, records);
+    let answers = [
+        made_ready(rt, alloc, &mut buffer),
+        made_ready(rt, alloc, &mut buffer),
+    ];
+    let left = closed(rt, alloc, buffer);
+    Some((
+        answers,
+        left.refused,
+        left.put,
+        left.log.pieces,
+        left.log.bytes,
+    ))
 }
 
 #[test]
-fn a_log_without_memory_is_refused(rt: HostRuntime) -> Result<(), Fail> {
+fn a_log_without_memory_is_refused(rt: HostRuntime) {
     let alloc = rt.alloc();
     let memory = Err(BufferFault::Trouble(Trouble::Memory));
-    assert!(rt; Buffer::start(&rt, alloc, Counter::with_room(0), 24).is_err());
-    let Ok(mut buffer) = Buffer::start(&rt, alloc, Counter::with_room(2), 24) else {
-        return Err(Fail::from(Trouble::Memory));
-    };
-    for line in 0..3 {
-        buffer.ready(&rt, alloc)?;
-        buffer.put(&barrier(line + 1));
-    }
-    assert!(rt; buffer.ready(&rt, alloc) == memory);
-    assert!(rt; buffer.ready(&rt, alloc) == memory);
-    match buffer.close(&rt, alloc) {
-        Ok(_) => assert!(rt; false),
-        Err((trouble, log)) => {
-            assert!(rt; trouble == Trouble::Memory);
-            assert!(rt; log.pieces == 2);
-            assert!(rt; log.bytes == 32);
-        }
-    }
-    Ok(())
+    let due = ([memory, memory], Some(Trouble::Memory), 3, 2, 32);
+    assert!(rt; counted(&rt, alloc, 0, 24, 3).is_none());
+    assert!(rt; counted(&rt, alloc, 2, 24, 3) == Some(due));
 }
 
 #[test]
-fn a_child_leaves_its_parents_records(rt: HostRuntime) -> Result<(), Fail> {
-    let alloc = rt.alloc();
-    let Ok(mut buffer) = Buffer::start(&rt, alloc, root(alloc, &[])?, 24) else {
-        return Err(Fail::from(Trouble::Memory));
-    };
-    buffer.ready(&rt, alloc)?;
-    buffer.put(&barrier(1));
-    let before = buffer.child(&rt, alloc, 0, 0, 2)?;
-    assert!(rt; before.bytes() == [].as_slice());
-    buffer.ready(&rt, alloc)?;
-    let after = buffer.child(&rt, alloc, 0, 1, 2)?;
-    assert!(rt; after.lengths() == [].as_slice());
+fn a_log_has_room_for_so_many_records(rt: HostRuntime) {
+    let full = Err(BufferFault::LogFull);
+    let due = ([full, full], None, 4_194_304, 26, 100_663_304);
+    assert!(rt; counted(&rt, rt.alloc(), 100, 4_194_304, 4_194_304) == Some(due));
+}
+
+// Whether nothing was appended to the log.
+fn is_empty(log: &MemLog) -> bool {
+    log.bytes().is_empty() && log.lengths().is_empty()
+}
+
+// Puts two records, makes a child before the second one, and another once there is room for it, and tells whether they are empty.
+fn empty_children<R: Threads + Wait + Copy + Send + 'static>(
+    rt: &R,
+    alloc: Global,
+    buffer: &mut Buffer<MemLog>,
+) -> Result<[bool; 2], BufferFault>
+    requires { buffer.old.path ≡ [] }
+{
+    add(rt, alloc, buffer, 1)?;
+    let before = is_empty(&buffer.child(rt, alloc, 0, 0, 2)?);
+    buffer.ready(rt, alloc)?;
+    let after = is_empty(&buffer.child(rt, alloc, 0, 1, 2)?);
     buffer.put(&barrier(2));
-    assert!(rt; buffer.count() == 2);
-    let left = closed(&rt, alloc, buffer);
-    assert!(rt; left.refused.is_none());
-    assert!(rt; left.log.lengths() == [8, 24, 24].as_slice());
-    assert!(rt; left.log.bytes() == log_of(alloc, 2)?.as_slice());
-    Ok(())
+    Ok([before, after])
 }
 
 #[test]
-fn a_child_that_fails_is_a_refusal(rt: HostRuntime) -> Result<(), Fail> {
+fn a_child_leaves_its_parents_records(rt: HostRuntime) {
     let alloc = rt.alloc();
-    let Ok(mut buffer) = Buffer::start(&rt, alloc, root(alloc, &[2])?, 24) else {
-        return Err(Fail::from(Trouble::Memory));
-    };
-    buffer.ready(&rt, alloc)?;
-    buffer.put(&barrier(1));
-    assert!(rt; buffer.child(&rt, alloc, 0, 0, 2).err() == Some(Trouble::Failed));
-    assert!(rt; buffer.ready(&rt, alloc) == Err(BufferFault::Trouble(Trouble::Failed)));
+    let mut buffer = buffer_of(&rt, alloc, &[]).expect(&rt, "memory");
+    let made = empty_children(&rt, alloc, &mut buffer);
     let left = closed(&rt, alloc, buffer);
-    assert!(rt; left.refused == Some(Trouble::Failed));
-    assert!(rt; left.log.bytes() == LOG_HEADER.as_slice());
-    Ok(())
+    assert!(rt; made == Ok([true, true]));
+    let due = (None, 2, 3, 56, true);
+    assert!(rt; seen(alloc, &left, &[8, 24, 24], 2) == Ok(due));
+}
+
+// Why no child is made once a record was put.
+fn refusal_of_child<R: Threads + Wait + Copy + Send + 'static>(
+    rt: &R,
+    alloc: Global,
+    buffer: &mut Buffer<MemLog>,
+) -> Result<Option<Trouble>, BufferFault>
+    requires { buffer.old.path ≡ [] }
+{
+    add(rt, alloc, buffer, 1)?;
+    Ok(buffer.child(rt, alloc, 0, 0, 2).err())
 }
 
 #[test]
-fn a_child_comes_when_what_was_sent_is_appended(rt: HostRuntime) -> Result<(), Fail> {
+fn a_child_that_fails_is_a_refusal(rt: HostRuntime) {
     let alloc = rt.alloc();
-    // the call on the log that fails, of header, block and child, and how many pieces the log has in the end
-    for (call, pieces) in [(0, 3), (2, 1), (3, 2)] {
-        let Ok(mut buffer) = Buffer::start(&rt, alloc, root(alloc, &[call])?, 24) else {
-            return Err(Fail::from(Trouble::Memory));
-        };
-        buffer.ready(&rt, alloc)?;
-        buffer.put(&barrier(1));
-        buffer.ready(&rt, alloc)?;
-        buffer.put(&barrier(2));
-        let is_made = buffer.child(&rt, alloc, 0, 1, 2).is_ok();
-        let left = closed(&rt, alloc, buffer);
-        assert!(rt; is_made == (call == 0), "call {call}");
-        assert!(rt; left.refused.is_none() == is_made, "call {call}");
-        assert!(rt; left.log.lengths().len() == pieces, "call {call}");
+    let mut buffer = buffer_of(&rt, alloc, &[2]).expect(&rt, "memory");
+    let refused = refusal_of_child(&rt, alloc, &mut buffer);
+    let again = made_ready(&rt, alloc, &mut buffer);
+    let left = closed(&rt, alloc, buffer);
+    let failed = BufferFault::Trouble(Trouble::Failed);
+    assert!(rt; (refused, again) == (Ok(Some(Trouble::Failed)), Err(failed)));
+    let due = (Some(Trouble::Failed), 1, 1, 8, true);
+    assert!(rt; seen(alloc, &left, &[8], 0) == Ok(due));
+}
+
+// Whether a child is made once two records were put.
+fn has_child<R: Threads + Wait + Copy + Send + 'static>(
+    rt: &R,
+    alloc: Global,
+    buffer: &mut Buffer<MemLog>,
+) -> Result<bool, BufferFault>
+    requires { buffer.old.path ≡ [] }
+{
+    add(rt, alloc, buffer, 1)?;
+    add(rt, alloc, buffer, 2)?;
+    Ok(buffer.child(rt, alloc, 0, 1, 2).is_ok())
+}
+
+// The same before a log whose call of this number fails, why the log was refused, and how many pieces it has in the end.
+fn has_child_failing<R: Threads + Wait + Copy + Send + 'static>(
+    rt: &R,
+    alloc: Global,
+    call: u64,
+) -> Result<(bool, Option<Trouble>, usize), BufferFault> {
+    let mut buffer = buffer_of(rt, alloc, &[call])?;
+    let is_made = has_child(rt, alloc, &mut buffer);
+    let left = closed(rt, alloc, buffer);
+    Ok((is_made?, left.refused, left.log.lengths().len()))
+}
+
+#[test]
+fn a_child_comes_when_what_was_sent_is_appended(rt: HostRuntime) {
+    let failed = Some(Trouble::Failed);
+    // The calls on the log are those of header, block and child.
+    for (call, due) in [
+        (0, (true, None, 3)),
+        (2, (false, failed, 1)),
+        (3, (false, failed, 2)),
+    ] {
+        let found = has_child_failing(&rt, rt.alloc(), call);
+        assert!(rt; found == Ok(due), "call {call}");
     }
-    Ok(())
 }
 
-// A log whose second append tells that it began, waits until it may go on, and notes how often it had to stop waiting.
+// What a test and a log tell each other: that the second append began, that it may go on, and how often it had to stop waiting.
+#[derive(Drop)]
+struct Flags {
+    began: AtomicU64,
+    may_go: AtomicU64,
+    gave_up: AtomicU64,
+}
+
+// A log whose second append tells that it began, and waits until it may go on.
 #[derive(Drop)]
 struct Waiting {
     appends: u32,
-    began: Arc<AtomicU64>,
-    may_go: Arc<AtomicU64>,
-    gave_up: Arc<AtomicU64>,
+    flags: Arc<Flags>,
 }
 
 /// How often one looks whether a flag is set.
@@ -349,9 +461,9 @@ impl Log for Waiting {
     fn append(&mut self, _alloc: Global, _piece: &[u8]) -> Result<(), Trouble> {
         self.appends = self.appends.saturating_add(1);
         if self.appends == 2 {
-            self.began.store(1, Ordering::SeqCst);
-            if !is_set(&self.may_go) {
-                self.gave_up.fetch_add(1, Ordering::SeqCst);
+            self.flags.began.store(1, Ordering::SeqCst);
+            if !is_set(&self.flags.may_go) {
+                self.flags.gave_up.fetch_add(1, Ordering::SeqCst);
             }
         }
         Ok(())
@@ -369,58 +481,47 @@ fn is_set(flag: &AtomicU64) -> bool {
     false
 }
 
-#[test]
-fn a_record_is_put_while_a_block_is_appended(rt: HostRuntime) -> Result<(), Fail> {
-    let alloc = rt.alloc();
-    let began = Arc::new(alloc, AtomicU64::new(0))?;
-    let may_go = Arc::new(alloc, AtomicU64::new(0))?;
-    let gave_up = Arc::new(alloc, AtomicU64::new(0))?;
+// A log that waits, and what it shares with its test.
+fn log_that_waits(alloc: Global) -> Result<(Waiting, Arc<Flags>), AllocError> {
+    let flags = Flags {
+        began: AtomicU64::new(0),
+        may_go: AtomicU64::new(0),
+        gave_up: AtomicU64::new(0),
+    };
+    let flags = Arc::new(alloc, flags)?;
     let log = Waiting {
         appends: 0,
-        began: Arc::try_clone(&began)?,
-        may_go: Arc::try_clone(&may_go)?,
-        gave_up: Arc::try_clone(&gave_up)?,
+        flags: Arc::try_clone(&flags)?,
     };
-    let Ok(mut buffer) = Buffer::start(&rt, alloc, log, 16_384) else {
-        return Err(Fail::from("no buffer"));
-    };
+    Ok((log, flags))
+}
+
+// Puts a block of records and one more, and then another while the first block is appended, and tells whether that one was put.
+fn is_put_meanwhile<R: Threads + Wait + Copy + Send + 'static>(
+    rt: &R,
+    alloc: Global,
+    buffer: &mut Buffer<Waiting>,
+    flags: &Flags,
+) -> bool {
     // A block has room for 682 records.
-    for line in 0..683 {
-        buffer.ready(&rt, alloc)?;
-        buffer.put(&barrier(line + 1));
-    }
+    fill(rt, alloc, buffer, 683);
     // The first block is being appended, and no call of this thread waits for that.
-    let began = is_set(&began);
-    buffer.ready(&rt, alloc)?;
-    buffer.put(&barrier(684));
-    may_go.store(1, Ordering::SeqCst);
-    match buffer.close(&rt, alloc) {
-        Ok(log) => assert!(rt; log.appends == 3),
-        Err(_) => assert!(rt; false),
-    }
-    assert!(rt; began && gave_up.load(Ordering::SeqCst) == 0);
-    Ok(())
+    let began = is_set(&flags.began);
+    let is_put = add(rt, alloc, buffer, 684).is_ok();
+    flags.may_go.store(1, Ordering::SeqCst);
+    began && is_put
 }
 
 #[test]
-fn a_log_has_room_for_so_many_records(rt: HostRuntime) -> Result<(), Fail> {
+fn a_record_is_put_while_a_block_is_appended(rt: HostRuntime) {
     let alloc = rt.alloc();
-    let Ok(mut buffer) = Buffer::start(&rt, alloc, Counter::with_room(100), 4_194_304) else {
-        return Err(Fail::from(Trouble::Memory));
-    };
-    for line in 0..4_194_304 {
-        buffer.ready(&rt, alloc)?;
-        buffer.put(&barrier(line + 1));
-    }
-    assert!(rt; buffer.ready(&rt, alloc) == Err(BufferFault::LogFull));
-    assert!(rt; buffer.ready(&rt, alloc) == Err(BufferFault::LogFull));
-    assert!(rt; buffer.count() == 4_194_304);
-    match buffer.close(&rt, alloc) {
-        Ok(log) => {
-            assert!(rt; log.pieces == 26);
-            assert!(rt; log.bytes == 100_663_304);
-        }
-        Err(_) => assert!(rt; false),
-    }
-    Ok(())
+    let (log, flags) = log_that_waits(alloc).expect(&rt, "memory");
+    let mut buffer = Buffer::start(&rt, alloc, log, 16_384)
+        .ok()
+        .expect(&rt, "memory");
+    let is_put = is_put_meanwhile(&rt, alloc, &mut buffer, &flags);
+    let left = closed(&rt, alloc, buffer);
+    let never_gave_up = flags.gave_up.load(Ordering::SeqCst) == 0;
+    assert!(rt; is_put && never_gave_up);
+    assert!(rt; (left.refused, left.put, left.log.appends) == (None, 684, 3));
 }

@@ -4,72 +4,58 @@ ghost use Rattle.std.specs.Prelude.{IfOk};
 ghost use Rattle.race_model.specs.IndexFault.{AreRows};
 
 use crate::tests::support::folder_of;
-use log_format::{FORMAT, Format};
+use log_format::FORMAT;
 use log_index::{
     IndexAnswer, IndexWhy, Row, read_index, read_index_as, read_index_old, write_index,
 };
 use memory_environment::{MemFolder, ShortReads};
 use std::alloc::{AllocError, Global};
-use sw_base::{INDEX_HEADER, Memory, OLD_INDEX_HEADER};
+use sw_base::Memory;
 
-// A row by hand: its depth, a field that should be 0, its first two steps as region, lane and span, and its records.
-#[derive(Clone, Copy)]
-struct Spelled {
-    depth: u32,
-    reserved: u32,
-    first: (u32, u16, u16),
-    second: (u32, u16, u16),
-    records: u64,
-}
+// A step: its region, lane and span.
+type Step = (u32, u16, u16);
 
-const NO_STEP: (u32, u16, u16) = (0, 0, 0);
+// A row by hand: its depth, a field that should be 0, its first two steps, and its records.
+type Spelled = (u32, u32, Step, Step, u64);
 
-const ROOT: Spelled = Spelled {
-    depth: 0,
-    reserved: 0,
-    first: NO_STEP,
-    second: NO_STEP,
-    records: 2,
-};
+const NO_STEP: Step = (0, 0, 0);
 
-fn lane(region: u32, lane: u16, span: u16) -> Spelled {
-    Spelled {
-        depth: 1,
-        reserved: 0,
-        first: (region, lane, span),
-        second: NO_STEP,
-        records: 10,
-    }
-}
+const ROOT: Spelled = (0, 0, NO_STEP, NO_STEP, 2);
 
-// The eight bytes of a step, as a number.
-fn number_of(step: (u32, u16, u16)) -> u64 {
-    u64::from(step.0) << 32 | u64::from(step.1) << 16 | u64::from(step.2)
+// The lanes of a region of two, and the one lane of the next region.
+const LANE_0: Spelled = (1, 0, (0, 0, 2), NO_STEP, 10);
+
+const LANE_1: Spelled = (1, 0, (0, 1, 2), NO_STEP, 10);
+
+const LONE: Spelled = (1, 0, (1, 0, 1), NO_STEP, 10);
+
+fn push_step(bytes: &mut Vec<u8>, step: Step) -> Result<(), AllocError> {
+    let (region, lane, span) = step;
+    bytes.extend_from_slice(&region.to_be_bytes())?;
+    bytes.extend_from_slice(&lane.to_be_bytes())?;
+    bytes.extend_from_slice(&span.to_be_bytes())
 }
 
 fn push_row(bytes: &mut Vec<u8>, row: Spelled) -> Result<(), AllocError> {
-    let numbers = [
-        u64::from(row.depth) << 32 | u64::from(row.reserved),
-        number_of(row.first),
-        number_of(row.second),
-        0,
-        0,
-        row.records,
-    ];
-    for number in numbers {
-        bytes.extend_from_slice(&number.to_be_bytes())?;
-    }
-    Ok(())
+    let (depth, reserved, first, second, records) = row;
+    bytes.extend_from_slice(&depth.to_be_bytes())?;
+    bytes.extend_from_slice(&reserved.to_be_bytes())?;
+    push_step(bytes, first)?;
+    push_step(bytes, second)?;
+    bytes.extend_from_slice(&[0; 16])?;
+    bytes.extend_from_slice(&records.to_be_bytes())
 }
 
-// The bytes of an index with these rows.
-fn index(alloc: Global, rows: &[Spelled]) -> Result<Vec<u8>, AllocError> {
-    let mut bytes = Vec::from_slice(alloc, &INDEX_HEADER)?;
+// The bytes of this header and these rows.
+fn spelled(alloc: Global, header: &[u8], rows: &[Spelled]) -> Result<Vec<u8>, AllocError> {
+    let mut bytes = Vec::from_slice(alloc, header)?;
     for row in rows {
         push_row(&mut bytes, *row)?;
     }
     Ok(bytes)
 }
+
+const HEADER: &[u8] = b"SWIDX002";
 
 const INDEX: &str = "d/index.swi";
 
@@ -103,32 +89,6 @@ fn bad(row: u32, why: IndexWhy) -> Option<IndexAnswer> {
     Some(IndexAnswer::Bad { row, why })
 }
 
-// The refusal of an index with these rows and one more.
-fn refusal_with(
-    alloc: Global,
-    before: &[Spelled],
-    last: Spelled,
-) -> Result<Option<IndexAnswer>, AllocError> {
-    let mut bytes = index(alloc, before)?;
-    push_row(&mut bytes, last)?;
-    Ok(refusal(alloc, &bytes))
-}
-
-// The first of these last rows, by its place from 0, that isn't refused so, as the row of this number behind the others.
-fn first_other(
-    alloc: Global,
-    before: &[Spelled],
-    number: u32,
-    rows: &[(Spelled, IndexWhy)],
-) -> Result<Option<usize>, AllocError> {
-    for (place, (row, why)) in rows.iter().enumerate() {
-        if refusal_with(alloc, before, *row)? != bad(number, *why) {
-            return Ok(Some(place));
-        }
-    }
-    Ok(None)
-}
-
 // Whether these are the rows, in order, each with the name of its log and its records.
 fn are_rows(alloc: Global, rows: &[Row], due: &[(&str, u32)]) -> Result<bool, Memory> {
     for (row, (name, records)) in rows.iter().zip(due) {
@@ -139,185 +99,172 @@ fn are_rows(alloc: Global, rows: &[Row], due: &[(&str, u32)]) -> Result<bool, Me
     Ok(rows.len() == due.len())
 }
 
-// Whether these are the rows of these bytes.
-fn has_rows(alloc: Global, bytes: &[u8], due: &[(&str, u32)]) -> Result<bool, IndexAnswer> {
-    let rows = read(alloc, bytes)?;
-    Ok(are_rows(alloc, &rows, due)?)
-}
-
-// Whether the rows of these bytes are written as the same bytes.
-fn is_written_back(alloc: Global, bytes: &[u8]) -> Result<bool, IndexAnswer> {
+// Whether the rows of these bytes are these, and are written as the same bytes.
+fn are_written_back(
+    alloc: Global,
+    bytes: &[u8],
+    due: &[(&str, u32)],
+) -> Result<[bool; 2], IndexAnswer> {
     let rows = read(alloc, bytes)?;
     let mut folder = MemFolder::new(alloc)?;
     let is_written = write_index(alloc, &mut folder, "d", &rows).is_ok();
-    Ok(is_written && folder.file(INDEX) == Some(bytes))
+    let is_same = is_written && folder.file(INDEX) == Some(bytes);
+    Ok([are_rows(alloc, &rows, due)?, is_same])
 }
 
-// How many rows these bytes have.
-fn count(alloc: Global, bytes: &[u8]) -> Option<usize> {
-    match read(alloc, bytes) {
-        Ok(rows) => Some(rows.len()),
-        Err(_) => None,
-    }
-}
+const READ: [Spelled; 5] = [ROOT, LANE_0, LANE_1, (2, 0, (0, 1, 2), (0, 0, 1), 10), LONE];
+
+const NAMED: [(&str, u32); 5] = [
+    ("t.swl", 2),
+    ("t-0.0.swl", 10),
+    ("t-0.1.swl", 10),
+    ("t-0.1-0.0.swl", 10),
+    ("t-1.0.swl", 10),
+];
 
 #[test]
 fn an_index_is_read_and_written_back(rt: HostRuntime) {
     let alloc = rt.alloc();
-    let deep = Spelled {
-        depth: 2,
-        second: (0, 0, 1),
-        ..lane(0, 1, 2)
-    };
-    let rows = [ROOT, lane(0, 0, 2), lane(0, 1, 2), deep, lane(1, 0, 1)];
-    let bytes = index(alloc, &rows).expect(&rt, "memory");
-    let due = [
-        ("t.swl", 2),
-        ("t-0.0.swl", 10),
-        ("t-0.1.swl", 10),
-        ("t-0.1-0.0.swl", 10),
-        ("t-1.0.swl", 10),
-    ];
+    let bytes = spelled(alloc, HEADER, &READ).expect(&rt, "memory");
     assert!(rt; refusal(alloc, &bytes).is_none());
-    let told = [
-        has_rows(alloc, &bytes, &due),
-        is_written_back(alloc, &bytes),
-    ];
-    assert!(rt; told == [Ok(true), Ok(true)], "{told:?}");
+    assert!(rt; are_written_back(alloc, &bytes, &NAMED) == Ok([true, true]));
 }
 
-#[test]
-fn a_folder_without_an_index_has_none(rt: HostRuntime) {
-    let alloc = rt.alloc();
-    let mut folder = MemFolder::new(alloc).expect(&rt, "memory");
-    let answer = read_index(alloc, &mut folder, "d").err();
-    assert!(rt; answer == Some(IndexAnswer::NoIndex));
-}
-
-#[test]
-fn each_rule_is_told_at_row_1(rt: HostRuntime) {
-    let reserved = Spelled {
-        reserved: 1,
-        ..ROOT
-    };
-    let none = Spelled { records: 0, ..ROOT };
-    let table = [
-        (reserved, IndexWhy::Depth),
-        (lane(0, 0, 65), IndexWhy::Span),
-        (lane(0, 2, 2), IndexWhy::Lane),
-        (lane(0, 0, 2), IndexWhy::Order),
-        (none, IndexWhy::Records),
-    ];
-    assert!(rt; first_other(rt.alloc(), &[], 1, &table) == Ok(None));
-}
-
-#[test]
-fn an_index_has_a_root(rt: HostRuntime) {
-    let alloc = rt.alloc();
-    assert!(rt; refusal(alloc, &INDEX_HEADER) == bad(1, IndexWhy::Cut));
-    assert!(rt; refusal(alloc, &index(alloc, &[ROOT]).expect(&rt, "memory")).is_none());
-}
-
-#[test]
-fn each_rule_is_told_at_row_2(rt: HostRuntime) {
-    let deep = Spelled {
-        depth: 5,
-        ..lane(0, 0, 2)
-    };
-    let none = Spelled {
-        records: 0,
-        ..lane(0, 0, 2)
-    };
+// Rows, of which the last breaks a rule.
+const REFUSED: [(&[Spelled], IndexWhy); 18] = [
+    (&[(0, 1, NO_STEP, NO_STEP, 2)], IndexWhy::Depth),
+    (&[(1, 0, (0, 0, 65), NO_STEP, 10)], IndexWhy::Span),
+    (&[(1, 0, (0, 2, 2), NO_STEP, 10)], IndexWhy::Lane),
+    (&[LANE_0], IndexWhy::Order),
+    (&[(0, 0, NO_STEP, NO_STEP, 0)], IndexWhy::Records),
+    (&[ROOT, (5, 0, (0, 0, 2), NO_STEP, 10)], IndexWhy::Depth),
+    (&[ROOT, (1, 0, (0, 0, 0), NO_STEP, 10)], IndexWhy::Span),
+    (&[ROOT, (1, 0, (0, 3, 2), NO_STEP, 10)], IndexWhy::Lane),
+    (&[ROOT, LANE_1], IndexWhy::Order),
+    (&[ROOT, LONE], IndexWhy::Order),
     // Lane 1 before lane 0, and no records: the order is tried first.
-    let late = Spelled {
-        records: 0,
-        ..lane(0, 1, 2)
-    };
-    let table = [
-        (deep, IndexWhy::Depth),
-        (lane(0, 0, 0), IndexWhy::Span),
-        (lane(0, 3, 2), IndexWhy::Lane),
-        (lane(0, 1, 2), IndexWhy::Order),
-        (lane(1, 0, 1), IndexWhy::Order),
-        (late, IndexWhy::Order),
-        (none, IndexWhy::Records),
-    ];
-    assert!(rt; first_other(rt.alloc(), &[ROOT], 2, &table) == Ok(None));
+    (&[ROOT, (1, 0, (0, 1, 2), NO_STEP, 0)], IndexWhy::Order),
+    (&[ROOT, (1, 0, (0, 0, 2), NO_STEP, 0)], IndexWhy::Records),
+    (
+        &[ROOT, LANE_0, (1, 0, (0, 1, 2), (0, 0, 1), 10)],
+        IndexWhy::Depth,
+    ),
+    (
+        &[ROOT, LANE_0, (1, 0, (0, 1, 0), NO_STEP, 10)],
+        IndexWhy::Span,
+    ),
+    (
+        &[ROOT, LANE_0, (1, 0, (0, 2, 2), NO_STEP, 10)],
+        IndexWhy::Lane,
+    ),
+    (
+        &[ROOT, LANE_0, (1, 0, (0, 1, 2), NO_STEP, 4_194_305)],
+        IndexWhy::Records,
+    ),
+    // A lane of a narrower region than the one before it, and a region left out.
+    (
+        &[ROOT, (1, 0, (0, 0, 3), NO_STEP, 10), LANE_1],
+        IndexWhy::Order,
+    ),
+    (
+        &[
+            ROOT,
+            (1, 0, (0, 0, 1), NO_STEP, 10),
+            (1, 0, (2, 0, 1), NO_STEP, 10),
+        ],
+        IndexWhy::Order,
+    ),
+];
+
+// The refusal of an index with these rows.
+fn refusal_of_rows(alloc: Global, rows: &[Spelled]) -> Result<Option<IndexAnswer>, AllocError> {
+    let bytes = spelled(alloc, HEADER, rows)?;
+    Ok(refusal(alloc, &bytes))
 }
 
 #[test]
-fn each_rule_is_told_at_row_3(rt: HostRuntime) {
-    let past = Spelled {
-        second: (0, 0, 1),
-        ..lane(0, 1, 2)
-    };
-    let many = Spelled {
-        records: 4_194_305,
-        ..lane(0, 1, 2)
-    };
-    let table = [
-        (past, IndexWhy::Depth),
-        (lane(0, 1, 0), IndexWhy::Span),
-        (lane(0, 2, 2), IndexWhy::Lane),
-        (many, IndexWhy::Records),
-    ];
-    assert!(rt; first_other(rt.alloc(), &[ROOT, lane(0, 0, 2)], 3, &table) == Ok(None));
-}
-
-#[test]
-fn a_row_3_out_of_order_is_told(rt: HostRuntime) {
-    let alloc = rt.alloc();
-    let narrower = [(lane(0, 1, 2), IndexWhy::Order)];
-    assert!(rt; first_other(alloc, &[ROOT, lane(0, 0, 3)], 3, &narrower) == Ok(None));
-    let past = [(lane(2, 0, 1), IndexWhy::Order)];
-    assert!(rt; first_other(alloc, &[ROOT, lane(0, 0, 1)], 3, &past) == Ok(None));
+fn each_rule_is_told_at_its_row(rt: HostRuntime) {
+    for (rows, why) in REFUSED {
+        let refused = refusal_of_rows(rt.alloc(), rows);
+        assert!(rt; refused == Ok(bad(rows.len() as u32, why)), "{rows:?}");
+    }
 }
 
 // The refusal of this many bytes of the index.
 fn refusal_of_prefix(alloc: Global, bytes: &[u8], count: usize) -> Option<IndexAnswer> {
     match bytes.get(..count) {
         Some(prefix) => refusal(alloc, prefix),
-        None => None,
+        None => Some(IndexAnswer::NoIndex),
     }
 }
 
+// A root alone is an index, of 56 bytes.
 #[test]
 fn an_index_cut_short_is_told(rt: HostRuntime) {
     let alloc = rt.alloc();
-    let bytes = index(alloc, &[ROOT, lane(0, 0, 2), lane(0, 1, 2)]).expect(&rt, "memory");
+    let bytes = spelled(alloc, HEADER, &[ROOT, LANE_0, LANE_1]).expect(&rt, "memory");
     assert!(rt; bytes.len() == 152);
     let table = [
-        (151, 3, IndexWhy::Cut),
-        (104, 3, IndexWhy::Order),
-        (103, 2, IndexWhy::Cut),
-        (9, 1, IndexWhy::Cut),
-        (8, 1, IndexWhy::Cut),
-        (7, 0, IndexWhy::Header),
+        (151, bad(3, IndexWhy::Cut)),
+        (104, bad(3, IndexWhy::Order)),
+        (103, bad(2, IndexWhy::Cut)),
+        (56, None),
+        (9, bad(1, IndexWhy::Cut)),
+        (8, bad(1, IndexWhy::Cut)),
+        (7, bad(0, IndexWhy::Header)),
     ];
-    for (count, row, why) in table {
-        assert!(rt;
-            refusal_of_prefix(alloc, &bytes, count) == bad(row, why),
-            "of {count} bytes"
-        );
+    for (count, answer) in table {
+        let refused = refusal_of_prefix(alloc, &bytes, count);
+        assert!(rt; refused == answer, "of {count} bytes");
     }
 }
 
-#[test]
-fn another_header_is_told(rt: HostRuntime) {
-    for bytes in [b"SWIDX00".as_slice(), b"SWIDX003".as_slice()] {
-        assert!(rt;
-            refusal(rt.alloc(), bytes) == bad(0, IndexWhy::Header),
-            "{bytes:?}"
-        );
-    }
-}
+const OLD: Option<IndexAnswer> = Some(IndexAnswer::Bad {
+    row: 0,
+    why: IndexWhy::Old,
+});
 
-// The bytes of an index of a root alone, with another header.
-fn index_with(alloc: Global, header: &[u8; 8]) -> Result<Vec<u8>, AllocError> {
-    let mut bytes = Vec::from_slice(alloc, header)?;
-    push_row(&mut bytes, ROOT)?;
-    Ok(bytes)
-}
+const OTHER: IndexAnswer = IndexAnswer::Bad {
+    row: 0,
+    why: IndexWhy::Header,
+};
+
+const NO_ROOT: IndexAnswer = IndexAnswer::Bad {
+    row: 1,
+    why: IndexWhy::Cut,
+};
+
+// The first byte behind the header is another one.
+const CHANGED: Spelled = (1 << 24, 0, NO_STEP, NO_STEP, 2);
+
+const DEEP: IndexAnswer = IndexAnswer::Bad {
+    row: 1,
+    why: IndexWhy::Depth,
+};
+
+// A header and rows, their refusal as an index of the second format, and what they are as one of the first: its number of rows.
+const HEADERS: [(
+    &[u8],
+    &[Spelled],
+    Option<IndexAnswer>,
+    Result<usize, IndexAnswer>,
+); 14] = [
+    (b"SWIDX00", &[], Some(OTHER), Err(OTHER)),
+    (b"SWIDX003", &[], Some(OTHER), Err(OTHER)),
+    (b"SWIDX002", &[ROOT], None, Err(OTHER)),
+    (b"SWIDX001", &[ROOT], OLD, Ok(1)),
+    (b"SWIDX001", &[], OLD, Err(NO_ROOT)),
+    (b"SWIDX001", &[CHANGED], OLD, Err(DEEP)),
+    // Each of the eight bytes counts.
+    (b"RWIDX001", &[ROOT], Some(OTHER), Err(OTHER)),
+    (b"SVIDX001", &[ROOT], Some(OTHER), Err(OTHER)),
+    (b"SWHDX001", &[ROOT], Some(OTHER), Err(OTHER)),
+    (b"SWIEX001", &[ROOT], Some(OTHER), Err(OTHER)),
+    (b"SWIDY001", &[ROOT], Some(OTHER), Err(OTHER)),
+    (b"SWIDX101", &[ROOT], Some(OTHER), Err(OTHER)),
+    (b"SWIDX011", &[ROOT], Some(OTHER), Err(OTHER)),
+    (b"SWIDX000", &[ROOT], Some(OTHER), Err(OTHER)),
+];
 
 // What is answered of these bytes as an index of the first format: how many rows it has.
 fn read_first(alloc: Global, bytes: &[u8]) -> Result<usize, IndexAnswer> {
@@ -326,55 +273,42 @@ fn read_first(alloc: Global, bytes: &[u8]) -> Result<usize, IndexAnswer> {
     Ok(rows.len())
 }
 
-#[test]
-fn an_index_of_the_first_format_is_old(rt: HostRuntime) {
-    let alloc = rt.alloc();
-    let old = index_with(alloc, &OLD_INDEX_HEADER).expect(&rt, "memory");
-    assert!(rt; refusal(alloc, &old) == bad(0, IndexWhy::Old));
-    assert!(rt; refusal(alloc, &OLD_INDEX_HEADER) == bad(0, IndexWhy::Old));
-    assert!(rt; read_first(alloc, &old) == Ok(1));
-    let new = index_with(alloc, &INDEX_HEADER).expect(&rt, "memory");
-    assert!(rt; read_first(alloc, &new).err() == bad(0, IndexWhy::Header));
+// What is answered of this header and these rows as an index of each format.
+fn answered(
+    alloc: Global,
+    header: &[u8],
+    rows: &[Spelled],
+) -> Result<(Option<IndexAnswer>, Result<usize, IndexAnswer>), AllocError> {
+    let bytes = spelled(alloc, header, rows)?;
+    Ok((refusal(alloc, &bytes), read_first(alloc, &bytes)))
 }
 
-// The bytes of an old index whose header has another byte at this place.
-fn changed_at(alloc: Global, place: usize) -> Result<Vec<u8>, AllocError> {
-    let mut bytes = index_with(alloc, &OLD_INDEX_HEADER)?;
-    if let Some(byte) = bytes.get_mut(place) {
-        *byte ^= 1;
-    }
-    Ok(bytes)
-}
-
-// Each of the eight bytes counts. Another one at the last place makes `SWIDX000`, and none makes the header of the second format.
 #[test]
-fn an_old_index_with_another_byte_has_another_header(rt: HostRuntime) {
-    let alloc = rt.alloc();
-    for place in 0..8 {
-        let bytes = changed_at(alloc, place).expect(&rt, "memory");
-        assert!(rt;
-            refusal(alloc, &bytes) == bad(0, IndexWhy::Header),
-            "byte {place}"
-        );
-        assert!(rt;
-            read_first(alloc, &bytes).err() == bad(0, IndexWhy::Header),
-            "byte {place}"
-        );
+fn the_header_tells_the_format(rt: HostRuntime) {
+    for (header, rows, second, first) in HEADERS {
+        let answers = answered(rt.alloc(), header, rows);
+        assert!(rt; answers == Ok((second, first)), "of {header:?}");
     }
-    let behind = changed_at(alloc, 8).expect(&rt, "memory");
-    assert!(rt; refusal(alloc, &behind) == bad(0, IndexWhy::Old));
 }
 
 // The bytes of an index with 65,536 rows.
 fn full_index(alloc: Global) -> Result<Vec<u8>, AllocError> {
-    let mut bytes = index(alloc, &[ROOT])?;
+    let mut bytes = spelled(alloc, HEADER, &[ROOT])?;
     for region in 0..1024 {
         let span = if region < 1023 { 64 } else { 63 };
         for number in 0..span {
-            push_row(&mut bytes, lane(region, number, span))?;
+            push_row(&mut bytes, (1, 0, (region, number, span), NO_STEP, 10))?;
         }
     }
     Ok(bytes)
+}
+
+// How many rows these bytes have.
+fn count(alloc: Global, bytes: &[u8]) -> Option<usize> {
+    match read(alloc, bytes) {
+        Ok(rows) => Some(rows.len()),
+        Err(_) => None,
+    }
 }
 
 #[test]
@@ -387,9 +321,14 @@ fn an_index_has_at_most_65536_rows(rt: HostRuntime) {
     assert!(rt; refusal(alloc, &bytes) == bad(65_537, IndexWhy::TooMany));
 }
 
-// The refusal of these bytes where this call on the folder fails.
-fn refusal_failing(alloc: Global, bytes: &[u8], call: u64) -> Result<Option<IndexAnswer>, Memory> {
-    let mut folder = folder_of(alloc, INDEX, bytes)?;
+// The refusal of a folder in which the name holds these bytes and this call fails.
+fn refusal_failing(
+    alloc: Global,
+    name: &str,
+    bytes: &[u8],
+    call: u64,
+) -> Result<Option<IndexAnswer>, Memory> {
+    let mut folder = folder_of(alloc, name, bytes)?;
     folder.fail(&[call])?;
     Ok(read_index(alloc, &mut folder, "d").err())
 }
@@ -397,14 +336,21 @@ fn refusal_failing(alloc: Global, bytes: &[u8], call: u64) -> Result<Option<Inde
 #[test]
 fn each_read_that_fails_is_told(rt: HostRuntime) {
     let alloc = rt.alloc();
-    let bytes = index(alloc, &[ROOT, lane(0, 0, 1), lane(1, 0, 1)]).expect(&rt, "memory");
+    let rows = [ROOT, (1, 0, (0, 0, 1), NO_STEP, 10), LONE];
+    let bytes = spelled(alloc, HEADER, &rows).expect(&rt, "memory");
     // The size, and reads of 48, 48, 48, 8 and no bytes.
     for call in 1..7 {
-        let answer = refusal_failing(alloc, &bytes, call);
+        let answer = refusal_failing(alloc, INDEX, &bytes, call);
         assert!(rt;
             answer == Ok(Some(IndexAnswer::ReadFault)),
             "at call {call}"
         );
     }
-    assert!(rt; refusal_failing(alloc, &bytes, 7) == Ok(None));
+    assert!(rt; refusal_failing(alloc, INDEX, &bytes, 7) == Ok(None));
+}
+
+#[test]
+fn a_folder_without_an_index_has_none(rt: HostRuntime) {
+    let refused = refusal_failing(rt.alloc(), "d/index", HEADER, 0);
+    assert!(rt; refused == Ok(Some(IndexAnswer::NoIndex)));
 }

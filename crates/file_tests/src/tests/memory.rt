@@ -250,21 +250,6 @@ fn root_of(alloc: Global, folder: &mut MemFolder) -> Result<MemLog, Trouble>
     folder.root(alloc, "d")
 }
 
-// The logs of a root and a lane, with one piece and with two.
-fn two_logs(alloc: Global, folder: &mut MemFolder) -> Result<(MemLog, MemLog), Trouble> {
-    let mut root = root_of(alloc, folder)?;
-    let mut lane = lane_of(alloc, &mut root, 1, 2)?;
-    let appended = [
-        append(alloc, &mut root, b"root"),
-        append(alloc, &mut lane, b"la"),
-        append(alloc, &mut lane, b"nes"),
-    ];
-    if appended != [Ok(()), Ok(()), Ok(())] {
-        return Err(Trouble::Failed);
-    }
-    Ok((root, lane))
-}
-
 // The name of a log, whether it was sealed there in these pieces.
 const SEALED: [(usize, &str, &[usize], bool); 4] = [
     (0, "d/t.swl", &[4], true),
@@ -273,11 +258,17 @@ const SEALED: [(usize, &str, &[usize], bool); 4] = [
     (1, "d/t-0.1.swl", &[5], false),
 ];
 
-// Whether both logs are sealed.
+// Whether the logs of a root and a lane get one piece and two, and are sealed.
 fn seal_both(alloc: Global, folder: &mut MemFolder) -> Result<bool, Trouble> {
-    let (root, lane) = two_logs(alloc, folder)?;
+    let mut root = root_of(alloc, folder)?;
+    let mut lane = lane_of(alloc, &mut root, 1, 2)?;
+    let appended = [
+        append(alloc, &mut root, b"root"),
+        append(alloc, &mut lane, b"la"),
+        append(alloc, &mut lane, b"nes"),
+    ];
     let sealed = [seal(alloc, folder, root), seal(alloc, folder, lane)];
-    Ok(sealed == [true; 2])
+    Ok(appended == [Ok(()), Ok(()), Ok(())] && sealed == [true; 2])
 }
 
 #[test]
@@ -299,29 +290,28 @@ fn a_sealed_log_is_held_under_its_name(rt: HostRuntime) {
     }
 }
 
-// A folder with two files, one of them put twice.
-fn two_files(alloc: Global) -> Result<MemFolder, Trouble> {
-    let mut folder = MemFolder::new(alloc)?;
-    folder.hold("other", b"other")?;
+// Puts a file twice.
+fn put_twice(alloc: Global, folder: &mut MemFolder) -> Result<(), Trouble> {
     folder.put(alloc, "name", b"first")?;
-    folder.put(alloc, "name", b"seconds")?;
-    Ok(folder)
+    folder.put(alloc, "name", b"seconds")
 }
 
 #[test]
 fn a_file_that_is_put_again_is_another(rt: HostRuntime) {
     let alloc = rt.alloc();
-    let mut folder = two_files(alloc).expect(&rt, "memory");
+    let mut folder = folder_of(alloc, "other", b"other").expect(&rt, "memory");
+    let is_put = put_twice(alloc, &mut folder).is_ok();
     let sizes = [folder.size(alloc, "name"), folder.size(alloc, "none")];
-    assert!(rt; sizes == [Ok(Some(7)), Ok(None)]);
-    assert!(rt; holds(&folder, "other", b"other"));
-    assert!(rt; folder.file("none").is_none());
+    let is_other_held = holds(&folder, "other", b"other") && folder.file("none").is_none();
+    assert!(rt; is_put && sizes == [Ok(Some(7)), Ok(None)] && is_other_held);
 }
 
 #[test]
 fn a_file_is_read_from_a_place_on(rt: HostRuntime) {
     let alloc = rt.alloc();
-    let mut folder = two_files(alloc).expect(&rt, "memory");
+    let mut folder = folder_of(alloc, "other", b"other").expect(&rt, "memory");
+    let is_put = put_twice(alloc, &mut folder).is_ok();
+    assert!(rt; is_put);
     let mut into = [0; 4];
     let table = [
         ("name", 2, 4, b"cond"),
@@ -369,20 +359,24 @@ fn errors_of_files(alloc: Global, folder: &mut MemFolder) -> [bool; 3] {
 }
 
 // The same of those on logs.
-fn errors_of_logs(alloc: Global, folder: &mut MemFolder, log: MemLog) -> [bool; 2] {
-    [
-        folder.root(alloc, "d").is_err(),
-        folder.seal(alloc, log).is_err(),
-    ]
+fn errors_of_logs(alloc: Global, folder: &mut MemFolder) -> Result<[bool; 2], Memory> {
+    let is_refused = folder.root(alloc, "d").is_err();
+    let log = MemLog::new(alloc, "d")?;
+    Ok([is_refused, folder.seal(alloc, log).is_err()])
+}
+
+// A folder whose call of this number fails.
+fn failing_folder(alloc: Global, number: u64) -> Result<MemFolder, Memory> {
+    let mut folder = MemFolder::new(alloc)?;
+    folder.fail(&[number])?;
+    Ok(folder)
 }
 
 // Which answers were errors where the call of this number fails.
 fn errors_where_one_fails(alloc: Global, number: u64) -> Result<([bool; 3], [bool; 2]), Memory> {
-    let log = MemLog::new(alloc, "d")?;
-    let mut folder = MemFolder::new(alloc)?;
-    folder.fail(&[number])?;
+    let mut folder = failing_folder(alloc, number)?;
     let of_files = errors_of_files(alloc, &mut folder);
-    Ok((of_files, errors_of_logs(alloc, &mut folder, log)))
+    Ok((of_files, errors_of_logs(alloc, &mut folder)?))
 }
 
 #[test]
@@ -399,13 +393,6 @@ fn calls_of_a_folder_fail_by_their_number(rt: HostRuntime) {
         let found = errors_where_one_fails(rt.alloc(), number);
         assert!(rt; found == Ok(due), "at call {number}");
     }
-}
-
-// A folder whose first call fails.
-fn failing_folder(alloc: Global) -> Result<MemFolder, Memory> {
-    let mut folder = MemFolder::new(alloc)?;
-    folder.fail(&[1])?;
-    Ok(folder)
 }
 
 // A log with one piece.
@@ -438,6 +425,6 @@ fn fails_to_seal(alloc: Global, folder: &mut MemFolder, log: MemLog) -> bool {
 fn a_seal_that_fails_gives_the_log_back(rt: HostRuntime) {
     let alloc = rt.alloc();
     let log = one_piece(alloc).expect(&rt, "memory");
-    let mut folder = failing_folder(alloc).expect(&rt, "memory");
+    let mut folder = failing_folder(alloc, 1).expect(&rt, "memory");
     assert!(rt; fails_to_seal(alloc, &mut folder, log));
 }

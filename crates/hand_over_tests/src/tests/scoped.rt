@@ -7,7 +7,6 @@ ghost use Rattle.hand_over.specs.declared.view.Turn.TheVariants.{Idle};
 use hand_over::{Desk, Parcel, Parcels, Place};
 use std::marker::PhantomData;
 use std::sync::Wait;
-use std::test::Fail;
 use std::thread;
 use std::thread::Threads;
 
@@ -118,11 +117,9 @@ fn in_a_scope<R: Threads + Wait + Sync>(
 }
 
 #[test]
-fn a_type_tells_what_parcels_are_about(rt: HostRuntime) -> Result<(), Fail> {
-    let (parcels, mut desk, mut places) = Parcels::<Large<Ten>>::new(rt.alloc(), 1, &())?;
-    let Some(place) = places.pop() else {
-        return Err(Fail::from("no place"));
-    };
+fn a_type_tells_what_parcels_are_about(rt: HostRuntime) {
+    let made = Parcels::<Large<Ten>>::new(rt.alloc(), 1, &());
+    let (parcels, mut desk, mut places) = made.expect(&rt, "memory");
+    let place = places.pop().expect(&rt, "a place");
     assert!(rt; in_a_scope(&rt, &parcels, &mut desk, place) == Some(12));
-    Ok(())
 }

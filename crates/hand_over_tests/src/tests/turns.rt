@@ -8,7 +8,6 @@ use super::Count;
 use hand_over::{Desk, Parcels, Place};
 use std::sync::Wait;
 use std::sync::atomic::{AtomicBool, AtomicU64, Ordering};
-use std::test::Fail;
 use std::thread;
 use std::thread::{Threads, join};
 
@@ -38,6 +37,11 @@ impl Order {
         if self.last.swap(turn, Ordering::SeqCst).wrapping_add(1) != turn {
             self.is_off.store(true, Ordering::SeqCst);
         }
+    }
+
+    // Whether all six turns came, in their order.
+    fn is_kept(&self) -> bool {
+        self.last.load(Ordering::SeqCst) == 6 && !self.is_off.load(Ordering::SeqCst)
     }
 
     // Waits until the turn of this number has come.
@@ -73,10 +77,9 @@ fn wait_at_place<R: Wait>(
     requires none { place.took ≡ None }
 {
     order.tell(1);
-    let count = parcels.take(rt, &mut place)?;
+    let value = parcels.take(rt, &mut place)?.value;
     order.tell(3);
     order.pass(4);
-    let value = count.value;
     order.tell(5);
     parcels.give_back(&mut place, Count { value: value + 1 });
     Some(value)
@@ -124,14 +127,11 @@ fn at_both_ends<R: Threads + Wait + Sync>(
 }
 
 #[test]
-fn a_place_and_a_desk_wait_for_one_another(rt: HostRuntime) -> Result<(), Fail> {
-    let (parcels, desk, mut places) = Parcels::<Count>::new(rt.alloc(), 1, &())?;
-    let Some(place) = places.pop() else {
-        return Err(Fail::from("no place"));
-    };
+fn a_place_and_a_desk_wait_for_one_another(rt: HostRuntime) {
+    let made = Parcels::<Count>::new(rt.alloc(), 1, &());
+    let (parcels, desk, mut places) = made.expect(&rt, "memory");
+    let place = places.pop().expect(&rt, "a place");
     let order = Order::new();
     assert!(rt; at_both_ends(&rt, &parcels, desk, place, &order) == (Some(7), 8));
-    assert!(rt; order.last.load(Ordering::SeqCst) == 6);
-    assert!(rt; !order.is_off.load(Ordering::SeqCst));
-    Ok(())
+    assert!(rt; order.is_kept());
 }
