@@ -224,7 +224,7 @@ pub record HasRoomFor (old new : Progress) : Type 0 where
 pub record Refused (trouble : Trouble) (new : Progress) : Type 0 where
   pub refused : (trouble ≡ Memory → ⊥) → new.buffer.refused ≡ Some trouble
 
--- a lane whose own task stops so doesn't go on
+-- what stops a lane where its own task stops so
 abbrev pub halt_for : Stop → Halt
 halt_for (stop.DivZero line) = halt.DivZero line
 halt_for (stop.Index line) = halt.Index line
@@ -232,7 +232,7 @@ halt_for (stop.LogFull line) = halt.LogFull line
 halt_for (stop.Tasks line) = halt.Tasks line
 halt_for (stop.Trouble trouble) = halt.Trouble trouble
 
--- what that is of a lane, where a part of a statement is answered by the task's stop
+-- the answer of a lane for a part of a statement, where the part answers a value or the stop of the lane's own task
 abbrev pub lane_answer : {A : Type 0} → Result A Stop → Result A Halt
 lane_answer (Ok v) = Ok v
 lane_answer (Err why) = Err (halt_for why)
