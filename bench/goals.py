@@ -161,8 +161,9 @@ def grow(args, top):
         before = None
         for times in squares.SIZES:
             folder = make(f"{top}/{shape.__name__}{times}", write_shape, shape, 20_000 * times)
-            sword, plain = measured([[args.sword, "check", folder, "4"], [args.plain, folder]], max(1, args.runs // 3))
-            print(f"{shape.__name__}, {size_of(folder):.1f} MB: {sword[0]:.3f} s, {sword[2]:.0f} MB; plain {plain[0]:.3f} s", flush=True)
+            sword, one, plain = measured([[args.sword, "check", folder, "4"], [args.sword, "check", folder, "1"], [args.plain, folder]], max(1, args.runs // 3))
+            print(f"{shape.__name__}, {size_of(folder):.1f} MB: W 4 {sword[0]:.3f} s, {sword[2]:.0f} MB; W 1 {one[0]:.3f} s; plain {plain[0]:.3f} s", flush=True)
+            goal(f"{shape.__name__}, four workers", sword[0] / one[0], "at most", 1.5, "times the time of one")
             if before:
                 goal(f"{shape.__name__}, twice the size", sword[0] / before, "at most", 2.5, "times the time")
             before = sword[0]

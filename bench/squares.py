@@ -2,7 +2,7 @@
 """Times `check` of folders that ask for as much work as their size allows, each at three sizes, of which the next is twice the last.
 
 The shapes: two logs of writes at a line of their own each, and the same at one line; one line under many sets of mutexes in each of 64
-lanes; many barrier intervals in one region; many regions of one lane each; lanes in four nested levels; one element that is read at
+lanes; many barrier intervals in one region; many regions of one lane, or two, each; lanes in four nested levels; one element that is read at
 many lines of one lane and written in another; runs that begin at one byte with strides that grow. Work that grows with the size takes
 2 times as long at the next size, and work that grows with its square 4 times.
 
@@ -75,10 +75,19 @@ def barriers(count):
     return team([[part for at in range(phases) for part in (access(WRITE, 2, lane), record(BARRIER, 0, 3, 0, 0))] for lane in range(2)])
 
 
+def regions_of(span, rows):
+    """Regions of so many lanes, which write one element, so many lanes in all."""
+    count = rows // span
+    root = [record(REGION, 0, 1, 0, span) for _ in range(count)]
+    return [([], root)] + [([(at, lane, span)], [access(WRITE, 2 + lane, at)]) for at in range(count) for lane in range(span)]
+
+
 def regions(count):
-    rows = min(count, 60_000)
-    root = [record(REGION, 0, 1, 0, 1) for _ in range(rows)]
-    return [([], root)] + [([(at, 0, 1)], [access(WRITE, 2, at)]) for at in range(rows)]
+    return regions_of(1, min(count, 60_000))
+
+
+def pairs(count):
+    return regions_of(2, min(count, 60_000))
 
 
 def nested(count):
@@ -107,7 +116,7 @@ def strides(count):
                  for lane in range(2)])
 
 
-SHAPES = [keys, one_key, mutexes, barriers, regions, nested, readers, strides]
+SHAPES = [keys, one_key, mutexes, barriers, regions, pairs, nested, readers, strides]
 
 
 def least(words):
@@ -132,7 +141,8 @@ def main():
                 put(folder, shape(base * times))
                 size = sum(entry.stat().st_size for entry in os.scandir(folder)) / 1e6
                 seconds, megabytes, status = least([PROGRAM, "check", folder, "4"])
-                told = f"{shape.__name__}, {size:.1f} MB: status {status}, {seconds:.3f} s"
+                alone = least([PROGRAM, "check", folder, "1"])[0]
+                told = f"{shape.__name__}, {size:.1f} MB: status {status}, {seconds:.3f} s by four workers, {alone:.3f} by one"
                 if before:
                     told += f", {seconds / before:.1f} times"
                 told += f", {megabytes} MB at most"

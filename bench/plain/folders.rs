@@ -685,13 +685,27 @@ impl Drop for Place {
     }
 }
 
+/// Two records to confirm, by row and number: any two, or as often two that race, where some do.
+fn two_records(random: &mut Random, files: &Files) -> [(u64, u64); 2] {
+    if random.is_one_in(2) {
+        let logs = read_folder(files).unwrap_or_default();
+        let accesses = accesses(&logs);
+        let pairs = accesses.iter().flat_map(|one| accesses.iter().map(move |other| (one, other)));
+        let races: Vec<_> = pairs.filter(|(one, other)| is_race(one, other)).collect();
+        if !races.is_empty() {
+            let (one, other) = races[random.below(races.len() as u64) as usize];
+            return [one, other].map(|access| (access.row as u64, access.number as u64));
+        }
+    }
+    [(); 2].map(|()| (1 + random.below(8), 1 + random.below(12)))
+}
+
 /// What a folder is asked for: the words, and what is due.
 fn asked(random: &mut Random, files: &Files, folder: &str) -> Vec<(Vec<String>, (i32, String))> {
     let number = |random: &mut Random, count: u64| 1 + random.below(count);
     let (workers, low) = (number(random, 4), number(random, 6));
     let high = low + random.below(3);
-    let record = |random: &mut Random| (number(random, 8), number(random, 12));
-    let (one, other) = (record(random), record(random));
+    let [one, other] = two_records(random, files);
     let words = |word: &str, numbers: &[u64]| {
         let numbers = numbers.iter().map(u64::to_string);
         [word.to_string(), folder.to_string()].into_iter().chain(numbers).collect::<Vec<String>>()
