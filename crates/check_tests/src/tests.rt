@@ -3,6 +3,7 @@ mod generated;
 mod graph;
 mod reasons;
 mod sweeping;
+mod team_threads;
 mod texts;
 mod threads;
 mod upgrades;

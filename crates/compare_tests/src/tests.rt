@@ -1,2 +1,3 @@
 mod groups;
 mod pairs;
+mod strides;

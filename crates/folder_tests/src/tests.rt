@@ -5,3 +5,4 @@ mod segments;
 mod together;
 mod upgrades;
 mod walks;
+mod witnesses;

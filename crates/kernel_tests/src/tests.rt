@@ -5,5 +5,6 @@ mod replays;
 mod runs;
 mod stops;
 mod updates;
+mod verdicts;
 mod whole_language;
 mod writers;

@@ -3,6 +3,8 @@ mod commands;
 mod living;
 mod records;
 mod serial;
+mod serial_tasks;
+mod staying;
 mod stops;
 mod support;
 mod teams;

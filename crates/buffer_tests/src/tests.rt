@@ -1,2 +1,0 @@
-mod blocks;
-mod buffers;

@@ -1,5 +1,0 @@
-use Rattle.std.proofs.Common.{◌≡◌, [], None}
-use Rattle.flush_writer_tests.proofs.tests.give_many.Given as goal
-
-abbrev pub invariant-loop-given : goal.invariant-loop-given
-invariant-loop-given g l = (l.flusher.refused ≡ None) × (l.block ≡ record { size = l.flusher.size; bytes = [] })

@@ -1,6 +1,0 @@
-use Rattle.std.proofs.Common.{◌≡◌}
-use Rattle.hand_over_tests.specs.Turns.{AreParted, IsAny, IsIdle}
-use Rattle.hand_over_tests.proofs.tests.close_all.Given as goal
-
-abbrev pub invariant-loop-lane : goal.invariant-loop-lane
-invariant-loop-lane l = (l.desk.table ≡ l.parcels) × AreParted 64 l.lane IsAny IsIdle l.desk.turns

@@ -1,5 +1,0 @@
-use Rattle.hand_over_tests.proofs.Turning.{all_idle}
-use Rattle.hand_over_tests.proofs.tests.each_lane_answers_a_thousand_parcels.Goals as goal
-
-pub all_at_once-requires-clause-idle : goal.all_at_once-requires-clause-idle
-all_at_once-requires-clause-idle g c lifetimes = all_idle 64 c.in_ok-parcels.desk.turns c.in_ok-parcels.ensures.turns

@@ -1,6 +1,0 @@
-use Rattle.hand_over_tests.proofs.tests.swap.Goals as goal
-
-pub collect-back-requires-clause-out : goal.collect-back-requires-clause-out
-collect-back-requires-clause-out g c lifetimes bounds =
-    let out = c.requires.out c.args.lane c.requires.lane in
-    (out.sent, out.is)

@@ -1,6 +1,0 @@
-use Rattle.std.proofs.Common.{◌≡◌}
-use Rattle.hand_over_tests.specs.Turns.{AreAll, IsOut}
-use Rattle.hand_over_tests.proofs.tests.swap_all.Given as goal
-
-abbrev pub invariant-loop-step : goal.invariant-loop-step
-invariant-loop-step g l = (l.desk.table ≡ l.parcels) × AreAll 64 IsOut l.desk.turns

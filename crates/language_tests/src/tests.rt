@@ -1,0 +1,3 @@
+mod certainty;
+mod meaning;
+mod texts;

@@ -1,0 +1,8 @@
+//! Tests of the texts of kernels: their tokens, their parse trees, which kernel is read or where and why there is none, and files that hold one.
+
+mod files;
+mod kernels;
+mod repeating;
+mod tokens;
+mod trees;
+mod updates;

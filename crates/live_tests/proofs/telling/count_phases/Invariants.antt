@@ -1,4 +1,0 @@
-use Rattle.live_tests.proofs.telling.count_phases.Given as goal
-
-abbrev pub ghosts-told : goal.ghosts-told
-ghosts-told g a = record { phases = a.phases }

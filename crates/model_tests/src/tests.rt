@@ -1,2 +1,0 @@
-mod phases;
-mod values;

@@ -1,0 +1,8 @@
+//! Tests of serial runs, and of one task of a run: its statements, loops and shares, where it stands still, and where it stops, each with
+
+mod constructs;
+mod runs;
+mod statements;
+mod stops;
+mod support;
+mod teams;

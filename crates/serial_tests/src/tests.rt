@@ -1,6 +1,0 @@
-mod constructs;
-mod runs;
-mod statements;
-mod stops;
-mod support;
-mod teams;

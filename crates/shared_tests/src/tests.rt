@@ -1,0 +1,4 @@
+mod logs;
+mod parcels;
+mod words;
+mod writers;

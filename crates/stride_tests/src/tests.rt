@@ -1,4 +1,0 @@
-mod mutexes;
-mod overlaps;
-mod summaries;
-mod trees;

@@ -1,6 +1,0 @@
-mod files;
-mod kernels;
-mod repeating;
-mod tokens;
-mod trees;
-mod updates;
