@@ -1,11 +1,13 @@
 mod folders;
 mod generated;
 mod graph;
+mod host_files;
 mod reasons;
 mod sweeping;
 mod team_threads;
 mod texts;
 mod threads;
+mod told;
 mod upgrades;
 mod witnesses;
 mod workers;

@@ -1,5 +1,5 @@
 //! A folder of real files.
-ghost use Rattle.std.specs.Prelude.{◌≤◌, None, length, IfOk};
+ghost use Rattle.std.specs.Prelude.{◌≡◌, ◌≤◌, None, length, IfOk};
 
 use crate::log::HostLog;
 use crate::system::{counted, is_missing, make_empty, put_whole, trouble};
@@ -14,9 +14,9 @@ use sw_base::{Folder, Path, Trouble};
 #[derive(Drop)]
 pub struct HostFolder<R> {
     rt: R,
-    pub(crate) read_faults: u64,
-    pub(crate) write_faults: u64,
-    pub(crate) roots: u64,
+    read_faults: u64,
+    write_faults: u64,
+    roots: u64,
 }
 
 impl<R: Files> HostFolder<R> {
@@ -28,6 +28,13 @@ impl<R: Files> HostFolder<R> {
             write_faults: 0,
             roots: 0,
         }
+    }
+
+    /// How many reads have failed, and how many calls that write: a log's fault counts once the log was given back.
+    pub fn faults(&self) -> (u64, u64)
+        ensures { result ≡ (self.read_faults, self.write_faults) }
+    {
+        (self.read_faults, self.write_faults)
     }
 }
 

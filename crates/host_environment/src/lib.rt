@@ -9,10 +9,9 @@ mod folder;
 mod log;
 mod out;
 mod system;
-#[cfg(test)]
-mod tests;
 
 pub use arguments::given_arguments;
 pub use folder::HostFolder;
 pub use log::HostLog;
 pub use out::HostOut;
+pub use system::write_whole;

@@ -39,8 +39,12 @@ pub(crate) fn is_missing(error: &Error) -> bool {
     error.kind() == ErrorKind::NotFound || error.kind() == ErrorKind::NotADirectory
 }
 
-/// Writes the whole piece. Once something was written, want of memory is an error as others are.
-pub(crate) fn write_whole<W: Write>(to: &mut W, piece: &[u8]) -> io::Result<()> {
+/// Writes the whole piece and flushes, with as many calls as that takes. Once something was written, want of memory is an error as others are.
+///
+/// # Errors
+///
+/// Those of the writer, and `WriteZero` where it takes no more bytes.
+pub fn write_whole<W: Write>(to: &mut W, piece: &[u8]) -> io::Result<()> {
     let mut rest = piece;
     while !rest.is_empty() {
         match to.write(rest) {

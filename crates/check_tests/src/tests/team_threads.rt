@@ -1,47 +1,17 @@
 //! On which thread a lane runs its phases.
 
+use super::told::told;
 use call_fixtures::asked;
 use command_answer::DONE;
-use host_environment::HostFolder;
 use memory_environment::{MemFolder, MemOut};
 use std::alloc::Global;
 use std::sync::atomic::{AtomicU64, Ordering};
 use std::test::Fail;
-use sw_base::{Folder, Gate};
-
-// What the host tells of the thread that asks.
-const ABOUT: &str = "/proc/thread-self/status";
-
-// What stands before its number.
-const NUMBER: &[u8] = b"\nPid:\t";
+use sw_base::Gate;
 
 // The number of the thread that asks, or 0 where the host doesn't tell it.
 fn this_thread(rt: HostRuntime, alloc: Global) -> u64 {
-    let mut about = [0u8; 1024];
-    let Ok(count) = HostFolder::new(rt).read(alloc, ABOUT, 0, &mut about) else {
-        return 0;
-    };
-    let told = &about[..count];
-    for at in 0..count {
-        if let Some(after) = told[at..].strip_prefix(NUMBER) {
-            return number(after);
-        }
-    }
-    0
-}
-
-// The number at the start of these bytes.
-fn number(bytes: &[u8]) -> u64 {
-    let mut value = 0u64;
-    for byte in bytes {
-        if !byte.is_ascii_digit() {
-            break;
-        }
-        value = value
-            .saturating_mul(10)
-            .saturating_add(u64::from(*byte - b'0'));
-    }
-    value
+    told(rt, alloc, "/proc/thread-self/status", b"\nPid:\t")
 }
 
 // Notes the threads on which the second lane begins its first phases.
@@ -82,8 +52,7 @@ fn a_lane_stays_on_its_thread_in_live(rt: HostRuntime) -> Result<(), Fail> {
     let mut out = MemOut::new(alloc)?;
     let words = &["live", "k", "d", "4096"];
     let status = asked(&rt, alloc, &mut folder, words, &mut out, &gate)?;
-    assert!(rt; status == DONE);
-    assert!(rt; gate.phases.load(Ordering::SeqCst) == 3);
+    assert!(rt; status == DONE && gate.phases.load(Ordering::SeqCst) == 3);
     let [first, second, third] = &gate.threads;
     let first = first.load(Ordering::SeqCst);
     assert!(rt; first > 0 && first != this_thread(rt, alloc));

@@ -1,46 +1,16 @@
 //! That no thread of a run is left when it has ended.
 
+use super::told::told;
 use call_fixtures::printed;
 use command_answer::{DONE, KERNEL_STOPPED};
-use host_environment::HostFolder;
 use memory_environment::MemFolder;
 use std::alloc::Global;
 use std::test::Fail;
 use std::thread;
-use sw_base::{Folder, Trouble};
-
-// What the host tells of this process.
-const ABOUT: &str = "/proc/self/status";
-
-// What stands before the number of its threads.
-const COUNT: &[u8] = b"\nThreads:\t";
-
-// The number at the start of these bytes.
-fn number(bytes: &[u8]) -> u32 {
-    let mut value = 0u32;
-    for byte in bytes {
-        if !byte.is_ascii_digit() {
-            break;
-        }
-        value = value
-            .saturating_mul(10)
-            .saturating_add(u32::from(*byte - b'0'));
-    }
-    value
-}
 
 // How many threads this process has.
-fn threads(rt: HostRuntime, alloc: Global) -> Result<u32, Trouble> {
-    let mut about = [0u8; 4096];
-    let mut host = HostFolder::new(rt);
-    let count = host.read(alloc, ABOUT, 0, &mut about)?;
-    let told = &about[..count];
-    for at in 0..count {
-        if let Some(after) = told[at..].strip_prefix(COUNT) {
-            return Ok(number(after));
-        }
-    }
-    Err(Trouble::Failed)
+fn threads(rt: HostRuntime, alloc: Global) -> u64 {
+    told(rt, alloc, "/proc/self/status", b"\nThreads:\t")
 }
 
 // A kernel that ends. Its lanes fill blocks that are handed to writers, and go through two phases.
@@ -63,26 +33,26 @@ const RUNS: &[(&str, &str, u8)] = &[
 const TURNS: u32 = 1_000_000;
 
 // Whether there are at most so many threads, after a while.
-fn are_left(rt: HostRuntime, alloc: Global, most: u32) -> Result<bool, Trouble> {
+fn are_left(rt: HostRuntime, alloc: Global, most: u64) -> bool {
     for _ in 0..TURNS {
-        if threads(rt, alloc)? <= most {
-            return Ok(true);
+        if (1..=most).contains(&threads(rt, alloc)) {
+            return true;
         }
         thread::yield_now();
     }
-    Ok(false)
+    false
 }
 
 #[test]
 fn no_thread_of_a_run_is_left(rt: HostRuntime) -> Result<(), Fail> {
     let alloc = rt.alloc();
-    let before = threads(rt, alloc)?;
+    let before = threads(rt, alloc);
     for (name, kernel, due) in RUNS {
         let mut folder = MemFolder::new(alloc)?;
         folder.hold("k", kernel.as_bytes())?;
         let (status, _) = printed(&rt, alloc, &mut folder, &[*name, "k", "d", "16384"], &[])?;
         assert!(rt; status == *due, "{name} {kernel}");
-        assert!(rt; are_left(rt, alloc, before)?, "{name} {kernel}");
+        assert!(rt; are_left(rt, alloc, before), "{name} {kernel}");
     }
     Ok(())
 }
