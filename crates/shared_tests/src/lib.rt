@@ -1,6 +1,7 @@
-//! Tests of bounded logging: a block of bytes, how a buffer cuts a log into pieces, and what is in a log after each of its calls failed.
+//! Tests of what threads share: words, mutexes and counters; parcels that are handed over; and a task's log behind its writer, its blocks, how
+//! a buffer cuts it into pieces, and what is in it after each of its calls failed.
 //!
-//! They are beside the crates that they test, and not in them, since a crate with tests is proved twice.
+//! They stand beside the crates that they test, and not in them, since a crate with tests is proved twice.
 #![tactic(auto)]
 
 #[cfg(test)]

@@ -1,4 +1,4 @@
-//! Tests of strided runs: summaries of accesses, whether two runs share a byte, and trees of runs; and of the mutexes that a task holds.
+//! Strided runs: summaries of accesses, whether two runs share a byte, and trees of runs; and of the mutexes that a task holds.
 
 mod mutexes;
 mod overlaps;

@@ -1,4 +1,4 @@
-//! Tests of what kernels mean: arithmetic, layout and shares, and the phases of a team.
+//! What kernels mean: arithmetic, layout and shares, and the phases of a team.
 
 mod phases;
 mod values;

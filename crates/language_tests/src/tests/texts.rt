@@ -1,4 +1,4 @@
-//! Tests of the texts of kernels: their tokens, their parse trees, which kernel is read or where and why there is none, and files that hold one.
+//! The texts of kernels: their tokens, their parse trees, which kernel is read or where and why there is none, and files that hold one.
 
 mod files;
 mod kernels;

@@ -1,4 +1,4 @@
-//! Tests of serial runs, and of one task of a run: its statements, loops and shares, where it stands still, and where it stops, each with
+//! Serial runs, and one task of a run: its statements, loops and shares, where it stands still, and where it stops, each with its records.
 
 mod constructs;
 mod runs;

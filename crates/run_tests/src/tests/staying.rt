@@ -1,4 +1,4 @@
-//! Teams of numbers on threads that stay.
+//! Teams of numbers on threads that stay. `counted` shows how a caller says what its lanes do, and learns it of the whole team.
 
 mod counting;
 mod nesting;

@@ -1,4 +1,4 @@
-//! Tests of bounded logging: a block of bytes, how a buffer cuts a log into pieces, and what is in a log after each of its calls failed.
+//! Bounded logging: a block of bytes, how a buffer cuts a log into pieces, and what is in a log after each of its calls failed.
 
 mod blocks;
 mod buffers;
