@@ -32,7 +32,7 @@ impl<R: Files> HostFolder<R> {
 
     /// How many reads have failed, and how many calls that write: a log's fault counts once the log was given back.
     pub fn faults(&self) -> (u64, u64)
-        ensures { result ≡ (self.read_faults, self.write_faults) }
+        ensures { result ≡ (self.now.read_faults, self.now.write_faults) }
     {
         (self.read_faults, self.write_faults)
     }
