@@ -6,10 +6,10 @@ use log_segment::Segment;
 use log_walk::walk;
 use memory_environment::MemFolder;
 use segment_groups::{Groups, Partner};
-use std::alloc::{AllocError, Global};
+use std::alloc::Global;
 use std::marker::Brand;
+use std::process::Abort;
 use std::sync::ledger::{Blank, Ledger};
-use std::test::Fail;
 use sw_base::{INDEX_HEADER, LOG_HEADER, Memory};
 
 // A region, a lane and a span; a kind of a record and its value.
@@ -27,7 +27,7 @@ const FORK: Rec = (6, 2);
 
 const END: Rec = (8, 0);
 
-fn spell(log: &mut Vec<u8>, record: &Rec) -> Result<(), AllocError> {
+fn spell(rt: &impl Abort, log: &mut Vec<u8>, record: &Rec) {
     let mut bytes = [0; 24];
     bytes[0] = record.0;
     bytes[7] = 1;
@@ -36,44 +36,54 @@ fn spell(log: &mut Vec<u8>, record: &Rec) -> Result<(), AllocError> {
         bytes[1] = 8;
         bytes[14] = 16;
     }
-    log.extend_from_slice(&bytes)
+    log.extend_from_slice(&bytes).expect(rt, "memory");
 }
 
-fn spell_row(index: &mut Vec<u8>, steps: &[Step], records: &[Rec]) -> Result<(), AllocError> {
-    index.extend_from_slice(&[0, 0, 0, steps.len().min(255) as u8, 0, 0, 0, 0])?;
+fn spell_row(rt: &impl Abort, index: &mut Vec<u8>, steps: &[Step], records: &[Rec]) {
+    let span = steps.len().min(255) as u8;
+    index
+        .extend_from_slice(&[0, 0, 0, span, 0, 0, 0, 0])
+        .expect(rt, "memory");
     for at in 0..4 {
         let (region, lane, span) = *steps.get(at).unwrap_or(&(0, 0, 0));
-        index.extend_from_slice(&[0, 0, 0, region, 0, lane, 0, span])?;
+        index
+            .extend_from_slice(&[0, 0, 0, region, 0, lane, 0, span])
+            .expect(rt, "memory");
     }
-    index.extend_from_slice(&(records.len() as u64).to_be_bytes())
+    index
+        .extend_from_slice(&(records.len() as u64).to_be_bytes())
+        .expect(rt, "memory");
 }
 
-fn log_name(alloc: Global, steps: &[Step]) -> Result<String, AllocError> {
-    let mut name = String::from_str(alloc, "d/t")?;
+fn log_name(rt: &impl Abort, alloc: Global, steps: &[Step]) -> String {
+    let mut name = String::from_str(alloc, "d/t").expect(rt, "memory");
     for (region, lane, _) in steps {
-        write!(name, "-{region}.{lane}")?;
+        write!(name, "-{region}.{lane}").expect(rt, "memory");
     }
-    name.push_str(".swl")?;
-    Ok(name)
+    name.push_str(".swl").expect(rt, "memory");
+    name
 }
 
-fn log_of(alloc: Global, records: &[Rec]) -> Result<Vec<u8>, AllocError> {
-    let mut log = Vec::from_slice(alloc, &LOG_HEADER)?;
+fn log_of(rt: &impl Abort, alloc: Global, records: &[Rec]) -> Vec<u8> {
+    let mut log = Vec::from_slice(alloc, &LOG_HEADER).expect(rt, "memory");
     for record in records {
-        spell(&mut log, record)?;
+        spell(rt, &mut log, record);
     }
-    Ok(log)
+    log
 }
 
-fn folder(alloc: Global, tasks: &[Task<'_>]) -> Result<MemFolder, Memory> {
-    let mut folder = MemFolder::new(alloc)?;
-    let mut index = Vec::from_slice(alloc, &INDEX_HEADER)?;
+fn folder(rt: &impl Abort, alloc: Global, tasks: &[Task<'_>]) -> MemFolder {
+    let mut folder = MemFolder::new(alloc).expect(rt, "memory");
+    let mut index = Vec::from_slice(alloc, &INDEX_HEADER).expect(rt, "memory");
     for (steps, records) in tasks {
-        spell_row(&mut index, steps, records)?;
-        folder.hold(&log_name(alloc, steps)?, &log_of(alloc, records)?)?;
+        spell_row(rt, &mut index, steps, records);
+        let name = log_name(rt, alloc, steps);
+        folder
+            .hold(&name, &log_of(rt, alloc, records))
+            .expect(rt, "memory");
     }
-    folder.hold("d/index.swi", &index)?;
-    Ok(folder)
+    folder.hold("d/index.swi", &index).expect(rt, "memory");
+    folder
 }
 
 // The positions taken, at most so many.
@@ -128,20 +138,21 @@ fn partners(alloc: Global, groups: &Groups, at: usize, most: usize) -> (Vec<usiz
 
 // All later positions that are concurrent, at most so many.
 fn by_pairs(
+    rt: &impl Abort,
     alloc: Global,
     segments: &[Segment],
     at: usize,
     most: usize,
-) -> Result<Vec<usize>, AllocError>
+) -> Vec<usize>
     requires { at < length segments.now }
 {
     let mut found = Vec::new(alloc);
     for (position, other) in segments.iter().enumerate() {
         if position > at && found.len() < most && segments[at].label.concurrent(&other.label) {
-            found.push(position)?;
+            found.push(position).expect(rt, "memory");
         }
     }
-    Ok(found)
+    found
 }
 
 // A segment's first partners, at most so many, and whether they are all.
@@ -149,51 +160,45 @@ type Partners = (Vec<usize>, bool);
 
 // Adds the first partners of this segment, if all pairs tell the same.
 fn add_partners(
+    rt: &impl Abort,
     alloc: Global,
     groups: &Groups,
     at: usize,
     most: usize,
     found: &mut Vec<Partners>,
-) -> Result<bool, AllocError>
+) -> bool
     requires { at < length groups.now }
 {
-    let due = by_pairs(alloc, groups.segments(), at, most)?;
+    let due = by_pairs(rt, alloc, groups.segments(), at, most);
     let partners = partners(alloc, groups, at, most);
     if partners.0 != due {
-        return Ok(false);
+        return false;
     }
-    found.push(partners)?;
-    Ok(true)
+    found.push(partners).expect(rt, "memory");
+    true
 }
 
 // The first partners of each segment, up to one of which all pairs tell others.
-fn partners_of_each(
-    alloc: Global,
-    groups: &Groups,
-    most: usize,
-) -> Result<Vec<Partners>, AllocError> {
+fn partners_of_each(rt: &impl Abort, alloc: Global, groups: &Groups, most: usize) -> Vec<Partners> {
     let mut found = Vec::new(alloc);
     for at in 0..groups.segments().len() {
-        if !add_partners(alloc, groups, at, most, &mut found)? {
+        if !add_partners(rt, alloc, groups, at, most, &mut found) {
             break;
         }
     }
-    Ok(found)
+    found
 }
 
 // Those of the folder's segments, which are the same by all pairs.
-fn table(alloc: Global, tasks: &[Task<'_>], most: usize) -> Result<Vec<Partners>, Fail> {
-    let mut folder = folder(alloc, tasks)?;
+fn table(rt: &impl Abort, alloc: Global, tasks: &[Task<'_>], most: usize) -> Vec<Partners> {
+    let mut folder = folder(rt, alloc, tasks);
     let Ok(segments) = walk(alloc, &mut folder, "d") else {
-        return Err(Fail::new("refused"));
+        panic!(rt; "refused");
     };
-    let groups = Groups::build(alloc, segments.as_slice())?;
-    let found = partners_of_each(alloc, &groups, most)?;
-    if found.len() == segments.len() {
-        Ok(found)
-    } else {
-        Err(Fail::new("other positions"))
-    }
+    let groups = Groups::build(alloc, segments.as_slice()).expect(rt, "memory");
+    let found = partners_of_each(rt, alloc, &groups, most);
+    assert!(rt; found.len() == segments.len(), "other positions");
+    found
 }
 
 fn have_positions(found: &[Partners], due: &[&[usize]]) -> bool {
@@ -216,7 +221,7 @@ fn nested<'a>(first: &'a [Rec], second: &'a [Rec]) -> [Task<'a>; 5] {
 }
 
 #[test]
-fn the_lanes_of_a_nested_team_and_another_lane(rt: HostRuntime) -> Result<(), Fail> {
+fn the_lanes_of_a_nested_team_and_another_lane(rt: HostRuntime) {
     let cases: [(&[Rec], &[Rec], [&[usize]; 3]); 2] = [
         (&[FORK, END], &[WRITE, END], [&[1, 2], &[2], &[]]),
         (
@@ -226,10 +231,9 @@ fn the_lanes_of_a_nested_team_and_another_lane(rt: HostRuntime) -> Result<(), Fa
         ),
     ];
     for (first, second, due) in cases {
-        let found = table(rt.alloc(), &nested(first, second), 9)?;
+        let found = table(&rt, rt.alloc(), &nested(first, second), 9);
         assert!(rt; have_positions(&found, &due));
     }
-    Ok(())
 }
 
 const DEEP: &[Task<'static>] = &[
@@ -261,13 +265,12 @@ fn are_first(all: &[Partners], first: &[Partners], most: usize) -> bool {
 }
 
 #[test]
-fn partners_are_those_of_all_pairs(rt: HostRuntime) -> Result<(), Fail> {
-    let all = table(rt.alloc(), DEEP, 99)?;
+fn partners_are_those_of_all_pairs(rt: HostRuntime) {
+    let all = table(&rt, rt.alloc(), DEEP, 99);
     for most in 0..8 {
         assert!(rt;
-            are_first(&all, &table(rt.alloc(), DEEP, most)?, most),
+            are_first(&all, &table(&rt, rt.alloc(), DEEP, most), most),
             "at most {most}"
         );
     }
-    Ok(())
 }

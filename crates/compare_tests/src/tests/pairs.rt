@@ -4,15 +4,15 @@ ghost use Rattle.std.specs.Prelude.{◌≡◌, ◌+◌, ◌^◌, ◌<◌, ◌≤
 use interval_tree::{Steps, Tree};
 use log_segment::Segment;
 use meeting_gate::MeetingGate;
-use mutex_set::{Held, HeldFault};
+use mutex_set::Held;
 use pair_compare::compare_all;
 use segment_groups::compare;
 use span_label::Label;
 use std::alloc::{AllocError, Global};
 use std::collections::BTreeSet;
 use std::marker::Brand;
+use std::process::Abort;
 use std::sync::ledger::{Blank, Ledger};
-use std::test::Fail;
 use std::thread::Threads;
 use stride_summary::Run;
 use sw_base::{Memory, NoGate, Path};
@@ -29,14 +29,14 @@ enum Does {
 }
 
 // One access of so many bytes, or of eight where no access has so many.
-fn sized(does: Does, bytes: u8, line: u32, base: u64, mutexes: &[u16]) -> Result<Run, HeldFault>
+fn sized(rt: &impl Abort, does: Does, bytes: u8, line: u32, base: u64, mutexes: &[u16]) -> Run
     requires { base < 2 ^ 40 }
 {
     let mut held = Held::none();
     for mutex in mutexes {
-        held.enter(*mutex)?;
+        held.enter(*mutex).expect(rt, "a place");
     }
-    Ok(Run {
+    Run {
         base,
         stride: 0,
         count: 1,
@@ -46,14 +46,14 @@ fn sized(does: Does, bytes: u8, line: u32, base: u64, mutexes: &[u16]) -> Result
         line,
         site: 0,
         held,
-    })
+    }
 }
 
-// One access of eight bytes.
-fn run(does: Does, line: u32, base: u64, mutexes: &[u16]) -> Result<Run, HeldFault>
+// One access of eight bytes, under no mutex.
+fn run(rt: &impl Abort, does: Does, line: u32, base: u64) -> Run
     requires { base < 2 ^ 40 }
 {
-    sized(does, 8, line, base, mutexes)
+    sized(rt, does, 8, line, base, &[])
 }
 
 fn writing_if(writes: bool) -> Does {
@@ -104,11 +104,11 @@ fn compared(alloc: Global, a: &Segment, b: &Segment) -> Result<Races, Memory> {
 type Access<'a> = (u16, Does, u8, u32, u64, &'a [u16]);
 
 // The interval of a lane that has this access alone.
-fn lane_of(alloc: Global, access: &Access<'_>) -> Result<Segment, Fail> {
+fn lane_of(rt: &impl Abort, alloc: Global, access: &Access<'_>) -> Segment {
     let (lane, does, bytes, line, base, mutexes) = access;
-    let run = sized(*does, *bytes, *line, *base % 1000, mutexes)?;
-    let runs = vec![in alloc; run]?;
-    Ok(segment(Label::root().fork(*lane % 2, 2), runs))
+    let run = sized(rt, *does, *bytes, *line, *base % 1000, mutexes);
+    let runs = vec![in alloc; run].expect(rt, "memory");
+    segment(Label::root().fork(*lane % 2, 2), runs)
 }
 
 const GUARDED_WRITE: Access<'static> = (0, Does::Write, 8, 9, 100, &[3]);
@@ -116,14 +116,14 @@ const GUARDED_WRITE: Access<'static> = (0, Does::Write, 8, 9, 100, &[3]);
 const GUARDED_UPDATE: Access<'static> = (0, Does::Update, 8, 9, 100, &[3]);
 
 // The races of two lanes that have these accesses.
-fn races_with(alloc: Global, guarded: &Access<'_>, access: &Access<'_>) -> Result<Races, Fail> {
-    let one = lane_of(alloc, guarded)?;
-    let other = lane_of(alloc, access)?;
-    Ok(compared(alloc, &one, &other)?)
+fn races_with(rt: &impl Abort, alloc: Global, guarded: &Access<'_>, access: &Access<'_>) -> Races {
+    let one = lane_of(rt, alloc, guarded);
+    let other = lane_of(rt, alloc, access);
+    compared(alloc, &one, &other).expect(rt, "memory")
 }
 
 #[test]
-fn lanes_race_where_they_share_a_byte_and_no_mutex(rt: HostRuntime) -> Result<(), Fail> {
+fn lanes_race_where_they_share_a_byte_and_no_mutex(rt: HostRuntime) {
     let table: [(Access<'_>, &[(u32, u32)]); 6] = [
         ((1, Does::Read, 8, 5, 107, &[]), &[(5, 9)]),
         ((1, Does::Read, 8, 5, 108, &[]), &[]),
@@ -133,56 +133,57 @@ fn lanes_race_where_they_share_a_byte_and_no_mutex(rt: HostRuntime) -> Result<()
         ((0, Does::Write, 8, 5, 100, &[]), &[]),
     ];
     for (access, races) in table {
-        assert!(rt; races_with(rt.alloc(), &GUARDED_WRITE, &access)?.as_slice() == races);
+        assert!(rt; races_with(&rt, rt.alloc(), &GUARDED_WRITE, &access).as_slice() == races);
     }
-    Ok(())
 }
 
 // The races that so many workers find.
-fn found<R: Threads + Sync>(
+fn found<R: Abort + Threads + Sync>(
     rt: &R,
     alloc: Global,
     segments: &[Segment],
     workers: usize,
-) -> Result<Races, Memory>
+) -> Races
     requires { (1 ≤ workers) × (workers ≤ 64) }
 {
-    let pairs = compare_all(rt, alloc, segments, workers, &NoGate)?;
-    Ok(listed(alloc, &pairs)?)
+    let pairs = compare_all(rt, alloc, segments, workers, &NoGate).expect(rt, "memory");
+    listed(alloc, &pairs).expect(rt, "memory")
 }
 
 // Whether each number of workers finds these races.
-fn each_finds<R: Threads + Sync>(
+fn each_finds<R: Abort + Threads + Sync>(
     rt: &R,
     alloc: Global,
     segments: &[Segment],
     races: &[(u32, u32)],
-) -> Result<bool, Memory> {
+) -> bool {
     for workers in [1, 2, 3, 7, 64] {
-        if found(rt, alloc, segments, workers)?.as_slice() != races {
-            return Ok(false);
+        if found(rt, alloc, segments, workers).as_slice() != races {
+            return false;
         }
     }
-    Ok(true)
+    true
 }
 
 // Each lane writes an element and reads the next lane's.
-fn team(alloc: Global, span: u16) -> Result<Vec<Segment>, Fail>
+fn team(rt: &impl Abort, alloc: Global, span: u16) -> Vec<Segment>
     requires { span < 2 ^ 10 }
 {
     let mut segments = Vec::new(alloc);
     for lane in 0..span {
         let own = u64::from(lane) * 8;
-        let write = run(Does::Write, 1000 + u32::from(lane), own, &[])?;
-        let read = run(Does::Read, 2000 + u32::from(lane), own + 8, &[])?;
-        let runs = vec![in alloc; write, read]?;
-        segments.push(segment(Label::root().fork(lane, span), runs))?;
+        let write = run(rt, Does::Write, 1000 + u32::from(lane), own);
+        let read = run(rt, Does::Read, 2000 + u32::from(lane), own + 8);
+        let runs = vec![in alloc; write, read].expect(rt, "memory");
+        segments
+            .push(segment(Label::root().fork(lane, span), runs))
+            .expect(rt, "memory");
     }
-    Ok(segments)
+    segments
 }
 
 // So many elements that the group's bytes are cut into ranges: one lane writes each, and another reads it.
-fn long_team(alloc: Global, elements: u32) -> Result<Vec<Segment>, Fail>
+fn long_team(rt: &impl Abort, alloc: Global, elements: u32) -> Vec<Segment>
     requires { elements < 2 ^ 16 }
 {
     let mut segments = Vec::new(alloc);
@@ -191,55 +192,59 @@ fn long_team(alloc: Global, elements: u32) -> Result<Vec<Segment>, Fail>
         for element in 0..elements {
             let line = 1 + element + 100_000 * u32::from(lane);
             let does = writing_if(lane == 0);
-            runs.push(run(does, line, u64::from(element) * 8, &[])?)?;
+            runs.push(run(rt, does, line, u64::from(element) * 8))
+                .expect(rt, "memory");
         }
-        segments.push(segment(Label::root().fork(lane, 2), runs))?;
+        segments
+            .push(segment(Label::root().fork(lane, 2), runs))
+            .expect(rt, "memory");
     }
-    Ok(segments)
+    segments
 }
 
 // So many lanes that access one element, in lines from this one on. One of them writes it.
 fn add_lanes(
+    rt: &impl Abort,
     alloc: Global,
     above: &Label,
     span: u16,
     line: u32,
     writing: u16,
     segments: &mut Vec<Segment>,
-) -> Result<(), Fail>
+)
     requires room { length above.now < 5 }
     requires line { line < 2 ^ 16 }
 {
     for lane in 0..span {
         let does = writing_if(lane == writing);
-        let run = run(does, line + u32::from(lane), 64, &[])?;
-        let runs = vec![in alloc; run]?;
-        segments.push(segment(above.fork(lane, span), runs))?;
+        let run = run(rt, does, line + u32::from(lane), 64);
+        let runs = vec![in alloc; run].expect(rt, "memory");
+        segments
+            .push(segment(above.fork(lane, span), runs))
+            .expect(rt, "memory");
     }
-    Ok(())
 }
 
 // Of each lane but the first: what the lane before it reads is what it writes.
-fn neighbours(alloc: Global, span: u16) -> Result<Races, AllocError> {
+fn neighbours(rt: &impl Abort, alloc: Global, span: u16) -> Races {
     let mut races = Vec::new(alloc);
     for lane in 1..u32::from(span) {
-        races.push((1000 + lane, 1999 + lane))?;
+        races.push((1000 + lane, 1999 + lane)).expect(rt, "memory");
     }
-    Ok(races)
+    races
 }
 
 #[test]
-fn each_number_of_workers_finds_all_races(rt: HostRuntime) -> Result<(), Fail> {
+fn each_number_of_workers_finds_all_races(rt: HostRuntime) {
     let alloc = rt.alloc();
     for span in [1, 2, 3, 7, 64] {
-        let segments = team(alloc, span)?;
-        let races = neighbours(alloc, span)?;
+        let segments = team(&rt, alloc, span);
+        let races = neighbours(&rt, alloc, span);
         assert!(rt;
-            each_finds(&rt, alloc, &segments, &races)?,
+            each_finds(&rt, alloc, &segments, &races),
             "of {span} lanes"
         );
     }
-    Ok(())
 }
 
 // The label of a lane, by the lanes and the spans of the teams on the way to it.
@@ -254,12 +259,13 @@ fn lane_below(forks: &[(u16, u16)]) -> Label {
 }
 
 // An interval that writes one element in each of these lines.
-fn writing(alloc: Global, label: Label, lines: &[u32]) -> Result<Segment, Fail> {
+fn writing(rt: &impl Abort, alloc: Global, label: Label, lines: &[u32]) -> Segment {
     let mut runs = Vec::new(alloc);
     for line in lines {
-        runs.push(run(Does::Write, *line, 64, &[])?)?;
+        runs.push(run(rt, Does::Write, *line, 64))
+            .expect(rt, "memory");
     }
-    Ok(segment(label, runs))
+    segment(label, runs)
 }
 
 // The lanes on the way to a lane, and the lines in which it writes. A lane of the outer team forks two, of which the second forks one
@@ -274,15 +280,21 @@ const NESTED: &[(&[(u16, u16)], &[u32])] = &[
 ];
 
 // Their intervals, and then that of the outer lane past a barrier, and that of the other outer lane.
-fn nested_teams(alloc: Global) -> Result<Vec<Segment>, Fail> {
+fn nested_teams(rt: &impl Abort, alloc: Global) -> Vec<Segment> {
     let mut segments = Vec::new(alloc);
     for (forks, lines) in NESTED {
-        segments.push(writing(alloc, lane_below(forks), lines)?)?;
+        segments
+            .push(writing(rt, alloc, lane_below(forks), lines))
+            .expect(rt, "memory");
     }
     let past = Label::root().fork(0, 2).barrier();
-    segments.push(writing(alloc, past, &[4])?)?;
-    segments.push(writing(alloc, lane_below(&[(1, 2)]), &[5])?)?;
-    Ok(segments)
+    segments
+        .push(writing(rt, alloc, past, &[4]))
+        .expect(rt, "memory");
+    segments
+        .push(writing(rt, alloc, lane_below(&[(1, 2)]), &[5]))
+        .expect(rt, "memory");
+    segments
 }
 
 const NESTED_RACES: &[(u32, u32)] = &[
@@ -298,92 +310,85 @@ const NESTED_RACES: &[(u32, u32)] = &[
 ];
 
 #[test]
-fn the_intervals_of_nested_teams_are_compared_by_labels(rt: HostRuntime) -> Result<(), Fail> {
-    let segments = nested_teams(rt.alloc())?;
-    assert!(rt; each_finds(&rt, rt.alloc(), &segments, NESTED_RACES)?);
-    Ok(())
+fn the_intervals_of_nested_teams_are_compared_by_labels(rt: HostRuntime) {
+    let segments = nested_teams(&rt, rt.alloc());
+    assert!(rt; each_finds(&rt, rt.alloc(), &segments, NESTED_RACES));
 }
 
 // How many races so many workers find in a team of two, and whether they met.
-fn found_at_once<R: Threads + Sync>(
-    rt: &R,
-    alloc: Global,
-    workers: usize,
-) -> Result<(usize, bool), Fail>
+fn found_at_once<R: Abort + Threads + Sync>(rt: &R, alloc: Global, workers: usize) -> (usize, bool)
     requires workers { (1 ≤ workers) × (workers ≤ 64) }
 {
     let gate = MeetingGate::new(workers);
-    let segments = team(alloc, 2)?;
-    let found = compare_all(rt, alloc, &segments, workers, &gate)?.len();
-    Ok((found, gate.have_met()))
+    let segments = team(rt, alloc, 2);
+    let pairs = compare_all(rt, alloc, &segments, workers, &gate).expect(rt, "memory");
+    (pairs.len(), gate.have_met())
 }
 
 #[test]
-fn all_workers_run_at_once(rt: HostRuntime) -> Result<(), Fail> {
+fn all_workers_run_at_once(rt: HostRuntime) {
     for workers in [2, 4, 64] {
-        assert!(rt; found_at_once(&rt, rt.alloc(), workers)? == (1, true));
+        assert!(rt; found_at_once(&rt, rt.alloc(), workers) == (1, true));
     }
-    Ok(())
 }
 
 // The write and the read of each element.
-fn of_elements(alloc: Global, elements: u32) -> Result<Races, AllocError>
+fn of_elements(rt: &impl Abort, alloc: Global, elements: u32) -> Races
     requires { elements < 2 ^ 16 }
 {
     let mut races = Vec::new(alloc);
     for element in 0..elements {
-        races.push((1 + element, 100_001 + element))?;
+        races
+            .push((1 + element, 100_001 + element))
+            .expect(rt, "memory");
     }
-    Ok(races)
+    races
 }
 
 #[test]
-fn ranges_of_bytes_lose_no_race(rt: HostRuntime) -> Result<(), Fail> {
-    let segments = long_team(rt.alloc(), 9000)?;
-    let races = of_elements(rt.alloc(), 9000)?;
-    assert!(rt; each_finds(&rt, rt.alloc(), &segments, &races)?);
-    Ok(())
+fn ranges_of_bytes_lose_no_race(rt: HostRuntime) {
+    let segments = long_team(&rt, rt.alloc(), 9000);
+    let races = of_elements(&rt, rt.alloc(), 9000);
+    assert!(rt; each_finds(&rt, rt.alloc(), &segments, &races));
 }
 
 // Eight lanes, of which one writes, and after a barrier eight that read.
-fn one_write(alloc: Global) -> Result<Vec<Segment>, Fail> {
+fn one_write(rt: &impl Abort, alloc: Global) -> Vec<Segment> {
     let mut segments = Vec::new(alloc);
-    add_lanes(alloc, &Label::root().fork(0, 1), 8, 1, 5, &mut segments)?;
+    add_lanes(rt, alloc, &Label::root().fork(0, 1), 8, 1, 5, &mut segments);
     let past = Label::root().fork(0, 1).barrier();
-    add_lanes(alloc, &past, 8, 101, 8, &mut segments)?;
-    Ok(segments)
+    add_lanes(rt, alloc, &past, 8, 101, 8, &mut segments);
+    segments
 }
 
 const ONE_WRITE: &[(u32, u32)] = &[(1, 6), (2, 6), (3, 6), (4, 6), (5, 6), (6, 7), (6, 8)];
 
 #[test]
-fn one_write_among_reads_of_one_element(rt: HostRuntime) -> Result<(), Fail> {
-    let segments = one_write(rt.alloc())?;
-    assert!(rt; each_finds(&rt, rt.alloc(), &segments, ONE_WRITE)?);
-    Ok(())
+fn one_write_among_reads_of_one_element(rt: HostRuntime) {
+    let segments = one_write(&rt, rt.alloc());
+    assert!(rt; each_finds(&rt, rt.alloc(), &segments, ONE_WRITE));
 }
 
 // Each line before the last, with the last.
-fn with_last(alloc: Global, last: u32) -> Result<Races, AllocError> {
+fn with_last(rt: &impl Abort, alloc: Global, last: u32) -> Races {
     let mut races = Vec::new(alloc);
     for line in 1..last {
-        races.push((line, last))?;
+        races.push((line, last)).expect(rt, "memory");
     }
-    Ok(races)
+    races
 }
 
 // The last of many lanes writes what all read.
 #[test]
-fn each_of_many_reads_meets_the_write(rt: HostRuntime) -> Result<(), Fail> {
+fn each_of_many_reads_meets_the_write(rt: HostRuntime) {
     let mut segments = Vec::new(rt.alloc());
-    add_lanes(rt.alloc(), &Label::root(), 500, 1, 499, &mut segments)?;
-    let races = with_last(rt.alloc(), 500)?;
-    assert!(rt; each_finds(&rt, rt.alloc(), &segments, &races)?);
-    Ok(())
+    add_lanes(&rt, rt.alloc(), &Label::root(), 500, 1, 499, &mut segments);
+    let races = with_last(&rt, rt.alloc(), 500);
+    assert!(rt; each_finds(&rt, rt.alloc(), &segments, &races));
 }
 
 #[test]
-fn updates_race_with_all_but_updates(rt: HostRuntime) -> Result<(), Fail> {
+fn updates_race_with_all_but_updates(rt: HostRuntime) {
     let table: [(Access<'_>, &[(u32, u32)]); 11] = [
         ((1, Does::Update, 8, 5, 100, &[]), &[]),
         ((1, Does::Update, 4, 5, 104, &[]), &[]),
@@ -398,35 +403,36 @@ fn updates_race_with_all_but_updates(rt: HostRuntime) -> Result<(), Fail> {
         ((0, Does::Write, 8, 5, 100, &[]), &[]),
     ];
     for (access, races) in table {
-        assert!(rt; races_with(rt.alloc(), &GUARDED_UPDATE, &access)?.as_slice() == races);
+        assert!(rt; races_with(&rt, rt.alloc(), &GUARDED_UPDATE, &access).as_slice() == races);
     }
-    Ok(())
 }
 
 // Each of 64 lanes updates one element in 1000 lines, and one of them does this to it before.
-fn histogram(alloc: Global, first: Does) -> Result<Vec<Segment>, Fail> {
+fn histogram(rt: &impl Abort, alloc: Global, first: Does) -> Vec<Segment> {
     let mut segments = Vec::new(alloc);
     for lane in 0..64u16 {
         let does = if lane == 40 { first } else { Does::Update };
-        let mut runs = vec![in alloc; run(does, 1000, 64, &[])?]?;
+        let mut runs = vec![in alloc; run(rt, does, 1000, 64)].expect(rt, "memory");
         for line in 1..1000u32 {
-            runs.push(run(Does::Update, line, 64, &[])?)?;
+            runs.push(run(rt, Does::Update, line, 64))
+                .expect(rt, "memory");
         }
-        segments.push(segment(Label::root().fork(lane, 64), runs))?;
+        segments
+            .push(segment(Label::root().fork(lane, 64), runs))
+            .expect(rt, "memory");
     }
-    Ok(segments)
+    segments
 }
 
 // A sweep that compared each two of the updates would take too long.
 #[test]
-fn many_updates_of_one_element_are_not_compared(rt: HostRuntime) -> Result<(), Fail> {
-    let updates = histogram(rt.alloc(), Does::Update)?;
-    assert!(rt; each_finds(&rt, rt.alloc(), &updates, &[])?);
-    let mut races = with_last(rt.alloc(), 1000)?;
-    races.push((1000, 1000))?;
-    let with_read = histogram(rt.alloc(), Does::Read)?;
-    assert!(rt; each_finds(&rt, rt.alloc(), &with_read, &races)?);
-    let with_write = histogram(rt.alloc(), Does::Write)?;
-    assert!(rt; each_finds(&rt, rt.alloc(), &with_write, &races)?);
-    Ok(())
+fn many_updates_of_one_element_are_not_compared(rt: HostRuntime) {
+    let updates = histogram(&rt, rt.alloc(), Does::Update);
+    assert!(rt; each_finds(&rt, rt.alloc(), &updates, &[]));
+    let mut races = with_last(&rt, rt.alloc(), 1000);
+    races.push((1000, 1000)).expect(&rt, "memory");
+    for first in [Does::Read, Does::Write] {
+        let segments = histogram(&rt, rt.alloc(), first);
+        assert!(rt; each_finds(&rt, rt.alloc(), &segments, &races));
+    }
 }

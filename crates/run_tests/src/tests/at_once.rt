@@ -7,7 +7,6 @@ use std::marker::Send;
 use std::process::Abort;
 use std::sync::Wait;
 use std::sync::atomic::{AtomicBool, AtomicU64, Ordering};
-use std::test::Fail;
 use std::thread;
 use std::thread::Threads;
 use sw_base::{Gate, Path};
@@ -35,30 +34,29 @@ fn meet<R: Abort + Threads + Wait + Sync + Copy + Send + 'static>(
     alloc: Global,
     lanes: usize,
     stays: bool,
-) -> Result<bool, Fail> {
+) -> bool {
     let text = format!(in alloc;
         "array a i64 {lanes} main {{ parallel {lanes} {{ a[tid] = 1 barrier }} }}"
-    )?;
+    ).expect(rt, "memory");
     let gate = FirstMeeting {
         gate: MeetingGate::new(lanes),
         lanes: lanes as u64,
         entered: AtomicU64::new(0),
     };
     let told = WithoutStart::new(&gate);
-    let run = run_with(rt, alloc, &text, 4096, &told, (&Path::root(), &[]), stays)?;
-    let end = run.ok().ok_or("stopped")?;
+    let run = run_with(rt, alloc, &text, 4096, &told, (&Path::root(), &[]), stays);
+    let end = run.ok().expect(rt, "an end");
     let words = end.words.as_slice();
-    Ok(gate.gate.have_met() && words.len() == lanes && words.iter().all(|word| *word == 1))
+    gate.gate.have_met() && words.len() == lanes && words.iter().all(|word| *word == 1)
 }
 
 #[test]
-fn all_lanes_run_at_once(rt: HostRuntime) -> Result<(), Fail> {
+fn all_lanes_run_at_once(rt: HostRuntime) {
     for lanes in [2, 4, 64] {
         for stays in [false, true] {
-            assert!(rt; meet(&rt, rt.alloc(), lanes, stays)?, "{lanes}, {stays}");
+            assert!(rt; meet(&rt, rt.alloc(), lanes, stays), "{lanes}, {stays}");
         }
     }
-    Ok(())
 }
 
 const TURNS: u64 = 4_000_000;
@@ -101,26 +99,25 @@ barrier
 } }";
 
 // Whether lane 1 draws all chunks while lane 0 is held, and forks its lanes meanwhile.
-fn is_held<R: Threads + Wait + Sync + Copy + Send + 'static>(
+fn is_held<R: Abort + Threads + Wait + Sync + Copy + Send + 'static>(
     rt: &R,
     alloc: Global,
     stays: bool,
-) -> Result<bool, Fail> {
+) -> bool {
     let gate = HoldingGate {
         has_come: AtomicBool::new(false),
         is_late: AtomicBool::new(false),
     };
     let told = WithoutStart::new(&gate);
-    let run = run_with(rt, alloc, DRAWING, 4096, &told, (&Path::root(), &[]), stays)?;
-    let end = run.ok().ok_or("stopped")?;
+    let run = run_with(rt, alloc, DRAWING, 4096, &told, (&Path::root(), &[]), stays);
+    let end = run.ok().expect(rt, "an end");
     let all_drawn = end.words.as_slice().iter().all(|word| *word == 1);
-    Ok(all_drawn && !gate.is_late.load(Ordering::SeqCst))
+    all_drawn && !gate.is_late.load(Ordering::SeqCst)
 }
 
 #[test]
-fn a_lane_does_nothing_before_the_gate(rt: HostRuntime) -> Result<(), Fail> {
+fn a_lane_does_nothing_before_the_gate(rt: HostRuntime) {
     for stays in [false, true] {
-        assert!(rt; is_held(&rt, rt.alloc(), stays)?, "{stays}");
+        assert!(rt; is_held(&rt, rt.alloc(), stays), "{stays}");
     }
-    Ok(())
 }

@@ -5,11 +5,11 @@ use memory_environment::MemLog;
 use region_runner::Finished;
 use std::alloc::Global;
 use std::marker::Send;
+use std::process::Abort;
 use std::sync::Wait;
 use std::sync::atomic::{AtomicU64, Ordering};
-use std::test::Fail;
 use std::thread::{Builder, Threads};
-use sw_base::{ClosedLog, Gate, Memory, Path};
+use sw_base::{ClosedLog, Gate, Path};
 use team_live::LiveGate;
 
 /// How often the threads of the first three lanes started, and how often these lanes entered a phase. The threads of some lanes, by their
@@ -137,23 +137,22 @@ barrier }
 ];
 
 // Whether the threads of the kernel's lanes start so often, and the lanes enter so many phases.
-fn lives<R: Threads + Wait + Sync + Copy + Send + 'static>(
+fn lives<R: Abort + Threads + Wait + Sync + Copy + Send + 'static>(
     rt: &R,
     alloc: Global,
     due: &Living<'_>,
-) -> Result<bool, Fail> {
+) -> bool {
     let (text, started, entered) = due;
     let gate = Counts::new(0);
-    let _ = run_with(rt, alloc, text, 4096, &gate, (&Path::root(), &[]), true)?;
-    Ok(are(&gate.started, started) && are(&gate.entered, entered))
+    let _ = run_with(rt, alloc, text, 4096, &gate, (&Path::root(), &[]), true);
+    are(&gate.started, started) && are(&gate.entered, entered)
 }
 
 #[test]
-fn the_threads_of_a_region_start_once(rt: HostRuntime) -> Result<(), Fail> {
+fn the_threads_of_a_region_start_once(rt: HostRuntime) {
     for due in LIVES {
-        assert!(rt; lives(&rt, rt.alloc(), due)?, "{}", due.0);
+        assert!(rt; lives(&rt, rt.alloc(), due), "{}", due.0);
     }
-    Ok(())
 }
 
 // Sixty-four lanes in four levels of regions of two phases, each of which has an element of its own.
@@ -171,13 +170,11 @@ barrier }
 barrier } }";
 
 #[test]
-fn regions_nest_in_four_levels(rt: HostRuntime) -> Result<(), Fail> {
+fn regions_nest_in_four_levels(rt: HostRuntime) {
     for stays in [false, true] {
-        let end = finished(&rt, rt.alloc(), DEEP, 4096, stays)?;
-        assert!(rt; end.logs.len() == 117);
-        assert!(rt; end.words.as_slice() == [1; 64].as_slice());
+        let end = finished(&rt, rt.alloc(), DEEP, 4096, stays);
+        assert!(rt; end.logs.len() == 117 && end.words.as_slice() == [1; 64].as_slice());
     }
-    Ok(())
 }
 
 // A lane of a region in lane 0, and lane 1, store into one element.
@@ -197,22 +194,21 @@ const RACING_TASKS: [&str; 5] = [
 ];
 
 // Whether these are the names of the logs' tasks, in order.
-fn are_named(alloc: Global, logs: &[ClosedLog<MemLog>], names: &[&str]) -> Result<bool, Memory> {
+fn are_named(rt: &impl Abort, alloc: Global, logs: &[ClosedLog<MemLog>], names: &[&str]) -> bool {
     for (log, name) in logs.iter().zip(names) {
-        if log.path.bare_name(alloc)?.as_str() != *name {
-            return Ok(false);
+        if log.path.bare_name(alloc).expect(rt, "memory").as_str() != *name {
+            return false;
         }
     }
-    Ok(logs.len() == names.len())
+    logs.len() == names.len()
 }
 
 #[test]
-fn a_kernel_with_a_race_ends_with_a_log_for_each_task(rt: HostRuntime) -> Result<(), Fail> {
+fn a_kernel_with_a_race_ends_with_a_log_for_each_task(rt: HostRuntime) {
     for stays in [false, true] {
-        let end = finished(&rt, rt.alloc(), RACING, 4096, stays)?;
-        assert!(rt; are_named(rt.alloc(), &end.logs, &RACING_TASKS)?);
+        let end = finished(&rt, rt.alloc(), RACING, 4096, stays);
+        assert!(rt; are_named(&rt, rt.alloc(), &end.logs, &RACING_TASKS));
     }
-    Ok(())
 }
 
 // Four lanes of three phases, each of which forks three lanes of two phases in the last one. No two lanes touch one element at once.
@@ -236,29 +232,28 @@ const REFUSED: [(u64, [u64; 3]); 4] = [
 ];
 
 // Whether such a run has these logs and words, and so many threads start.
-fn runs_so<R: Threads + Wait + Sync + Copy + Send + 'static>(
+fn runs_so<R: Abort + Threads + Wait + Sync + Copy + Send + 'static>(
     rt: &R,
     alloc: Global,
     due: &Finished<MemLog>,
     refused: u64,
     started: &[u64],
-) -> Result<bool, Fail> {
+) -> bool {
     let gate = Counts::new(refused);
-    let run = run_with(rt, alloc, FORKING, 96, &gate, (&Path::root(), &[]), true)?;
-    let end = run.ok().ok_or("stopped")?;
+    let run = run_with(rt, alloc, FORKING, 96, &gate, (&Path::root(), &[]), true);
+    let end = run.ok().expect(rt, "an end");
     let is_same = end.words.as_slice() == due.words.as_slice()
         && have_same_bytes(&end.logs, &due.logs);
-    Ok(is_same && are(&gate.started, started))
+    is_same && are(&gate.started, started)
 }
 
 #[test]
-fn a_run_is_the_same_where_threads_cant_be_started(rt: HostRuntime) -> Result<(), Fail> {
-    let due = finished(&rt, rt.alloc(), FORKING, 96, false)?;
+fn a_run_is_the_same_where_threads_cant_be_started(rt: HostRuntime) {
+    let due = finished(&rt, rt.alloc(), FORKING, 96, false);
     for (refused, started) in REFUSED {
         assert!(rt;
-            runs_so(&rt, rt.alloc(), &due, refused, &started)?,
+            runs_so(&rt, rt.alloc(), &due, refused, &started),
             "{refused}"
         );
     }
-    Ok(())
 }

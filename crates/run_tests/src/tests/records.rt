@@ -5,8 +5,8 @@ ghost use Rattle.region_runner.specs.Answer.{IsBufferSize};
 use crate::tests::support::{are_listed, finished};
 use std::alloc::Global;
 use std::marker::Send;
+use std::process::Abort;
 use std::sync::Wait;
-use std::test::Fail;
 use std::thread::Threads;
 
 // Each lane begins with the variables of the task that forks it, and gives none back.
@@ -324,33 +324,32 @@ const ENDS: &[Ending<'static>] = &[
 ];
 
 // Whether the kernel ends with these words and logs.
-fn ends_so<R: Threads + Wait + Sync + Copy + Send + 'static>(
+fn ends_so<R: Abort + Threads + Wait + Sync + Copy + Send + 'static>(
     rt: &R,
     alloc: Global,
     size: usize,
     due: &Ending<'_>,
     stays: bool,
-) -> Result<bool, Fail>
+) -> bool
     requires { IsBufferSize size }
 {
     let (kernel, words, logs) = due;
-    let end = finished(rt, alloc, kernel, size, stays)?;
+    let end = finished(rt, alloc, kernel, size, stays);
     let has_words = end.words.as_slice() == *words;
-    Ok(are_listed(alloc, end.logs, logs)? && has_words)
+    are_listed(rt, alloc, end.logs, logs) && has_words
 }
 
 #[test]
-fn each_log_has_the_records_of_its_task(rt: HostRuntime) -> Result<(), Fail> {
+fn each_log_has_the_records_of_its_task(rt: HostRuntime) {
     for due in ENDS {
         for size in [24, 60, 4096] {
             for stays in [false, true] {
                 assert!(rt;
-                    ends_so(&rt, rt.alloc(), size, due, stays)?,
+                    ends_so(&rt, rt.alloc(), size, due, stays),
                     "in {size}, {stays}: {}",
                     due.0
                 );
             }
         }
     }
-    Ok(())
 }

@@ -5,7 +5,7 @@ use memory_environment::MemLog;
 use region_runner::Finished;
 use serial_team::{SerialRun, TaskLog, run_serially};
 use std::alloc::Global;
-use std::test::Fail;
+use std::process::Abort;
 use sw_base::ClosedLog;
 
 /// More records than any of these kernels makes.
@@ -65,22 +65,24 @@ fn are_same(run: &Finished<MemLog>, serial: &SerialRun) -> bool {
 }
 
 // The serial run of the kernel.
-fn serial(alloc: Global, text: &str) -> Result<SerialRun, Fail> {
-    let kernel = kernel_of(alloc, text)?;
-    Ok(run_serially(alloc, &kernel, ROOM).ok().ok_or("stopped")?)
+fn serial(rt: &impl Abort, alloc: Global, text: &str) -> SerialRun {
+    let kernel = match kernel_of(alloc, text) {
+        Ok(kernel) => kernel,
+        Err(_fail) => panic!(rt; "no kernel"),
+    };
+    run_serially(alloc, &kernel, ROOM).ok().expect(rt, "an end")
 }
 
 #[test]
-fn runs_of_certain_kernels_are_their_serial_runs(rt: HostRuntime) -> Result<(), Fail> {
+fn runs_of_certain_kernels_are_their_serial_runs(rt: HostRuntime) {
     let alloc = rt.alloc();
     for text in KERNELS {
-        let serial = serial(alloc, text)?;
+        let serial = serial(&rt, alloc, text);
         for size in [24, 100, 4096, 16_384] {
             for stays in [false, true] {
-                let run = finished(&rt, alloc, text, size, stays)?;
+                let run = finished(&rt, alloc, text, size, stays);
                 assert!(rt; are_same(&run, &serial), "size {size}: {text}");
             }
         }
     }
-    Ok(())
 }

@@ -9,6 +9,7 @@ use crate::tests::staying::nesting::nested;
 use meeting_gate::MeetingGate;
 use std::alloc::{AllocError, Global};
 use std::marker::{Brand, Send};
+use std::process::Abort;
 use std::sync::Wait;
 use std::sync::atomic::{AtomicU64, Ordering};
 use std::test::Fail;
@@ -31,22 +32,19 @@ struct Counts {
 }
 
 impl Counts {
-    fn new(
-        alloc: Global,
-        lanes: usize,
-        meeting: Option<MeetingGate>,
-    ) -> Result<Counts, AllocError> {
+    fn new(rt: &impl Abort, alloc: Global, lanes: usize, meeting: Option<MeetingGate>) -> Counts {
         let mut counts = Counts {
             lanes: Vec::new(alloc),
             meeting,
         };
         for _ in 0..lanes {
-            counts.lanes.push(Count {
+            let count = Count {
                 started: AtomicU64::new(0),
                 entered: AtomicU64::new(0),
-            })?;
+            };
+            counts.lanes.push(count).expect(rt, "memory");
         }
-        Ok(counts)
+        counts
     }
 
     fn start(&self, lane: usize) {
@@ -117,7 +115,7 @@ fn builder(refused: u64, lane: usize) -> Builder {
 }
 
 // A team, in each phase of which each lane gets the phase's digit, and the hand 1 before it and 2 after it.
-fn team<R: Threads + Wait + Copy + Send + Sync + 'static>(
+fn team<R: Abort + Threads + Wait + Copy + Send + Sync + 'static>(
     rt: &R,
     alloc: Global,
     gate: &Counts,
@@ -153,21 +151,19 @@ fn team<R: Threads + Wait + Copy + Send + Sync + 'static>(
 }
 
 // Whether the team of this case does what is to come of it, with threads that stay, or without one that tells of its start.
-fn holds<R: Threads + Wait + Copy + Send + Sync + 'static>(
+fn holds<R: Abort + Threads + Wait + Copy + Send + Sync + 'static>(
     rt: &R,
     alloc: Global,
     case: &Case,
     stays: bool,
-) -> Result<bool, AllocError> {
-    let gate = Counts::new(alloc, case.lanes, None)?;
-    let (hand, lanes, whole) = team(rt, alloc, &gate, case, stays)?;
+) -> bool {
+    let gate = Counts::new(rt, alloc, case.lanes, None);
+    let (hand, lanes, whole) = team(rt, alloc, &gate, case, stays).expect(rt, "memory");
     let each = lanes.iter().all(|lane| *lane == case.lane);
     let threads = if stays { case.threads } else { 0 };
-    Ok(
-        each && lanes.len() == case.lanes
-            && (whole, hand) == (case.whole, case.hand)
-            && gate.are(threads, case.done),
-    )
+    each && lanes.len() == case.lanes
+        && (whole, hand) == (case.whole, case.hand)
+        && gate.are(threads, case.done)
 }
 
 // A team of four that does three phases.
@@ -273,13 +269,12 @@ const CASES: [Case; 14] = [
 ];
 
 #[test]
-fn lanes_do_their_phases_in_order_on_threads_that_start_once(rt: HostRuntime) -> Result<(), Fail> {
+fn lanes_do_their_phases_in_order_on_threads_that_start_once(rt: HostRuntime) {
     for (row, case) in CASES.iter().enumerate() {
         for stays in [false, true] {
-            assert!(rt; holds(&rt, rt.alloc(), case, stays)?, "row {row}, {stays}");
+            assert!(rt; holds(&rt, rt.alloc(), case, stays), "row {row}, {stays}");
         }
     }
-    Ok(())
 }
 
 // As many lanes as there may be, in two phases.
@@ -290,11 +285,10 @@ const CROWD: Case = Case {
 };
 
 #[test]
-fn lanes_run_at_once(rt: HostRuntime) -> Result<(), Fail> {
-    let gate = Counts::new(rt.alloc(), 64, Some(MeetingGate::new(64)))?;
-    let (_, _, whole) = team(&rt, rt.alloc(), &gate, &CROWD, true)?;
+fn lanes_run_at_once(rt: HostRuntime) {
+    let gate = Counts::new(&rt, rt.alloc(), 64, Some(MeetingGate::new(64)));
+    let (_, _, whole) = team(&rt, rt.alloc(), &gate, &CROWD, true).expect(&rt, "memory");
     assert!(rt; whole && gate.have_met());
-    Ok(())
 }
 
 #[test]
@@ -308,12 +302,8 @@ fn each_lane_counts_the_phases(rt: HostRuntime) -> Result<(), Fail> {
 
 // A team of four, in each of whose three phases each lane runs such a team, as does each of theirs: 157 teams.
 #[test]
-fn teams_nest(rt: HostRuntime) -> Result<(), Fail> {
-    let gate = Counts::new(rt.alloc(), 4, None)?;
-    let Some(after) = nested::<_, u64, _>(&rt, rt.alloc(), 2, 4, &gate) else {
-        return Err(Fail::from("no memory"));
-    };
-    assert!(rt; after.len() == 4);
-    assert!(rt; gate.are(0, 471));
-    Ok(())
+fn teams_nest(rt: HostRuntime) {
+    let gate = Counts::new(&rt, rt.alloc(), 4, None);
+    let after = nested::<_, u64, _>(&rt, rt.alloc(), 2, 4, &gate).expect(&rt, "memory");
+    assert!(rt; after.len() == 4 && gate.are(0, 471));
 }

@@ -7,8 +7,8 @@ use lane_runner::Stop;
 use memory_environment::MemLog;
 use std::alloc::Global;
 use std::marker::Send;
+use std::process::Abort;
 use std::sync::Wait;
-use std::test::Fail;
 use std::thread::Threads;
 use sw_base::{ClosedLog, NoGate, Path};
 use team_live::WithoutStart;
@@ -94,37 +94,34 @@ const STOPS: &[Stopping<'static>] = &[
 ];
 
 // Whether the kernel stops so, and leaves these logs.
-fn stops_so<R: Threads + Wait + Sync + Copy + Send + 'static>(
+fn stops_so<R: Abort + Threads + Wait + Sync + Copy + Send + 'static>(
     rt: &R,
     alloc: Global,
     size: usize,
     due: &Stopping<'_>,
     stays: bool,
-) -> Result<bool, Fail>
+) -> bool
     requires { IsBufferSize size }
 {
     let (kernel, name, why, words, logs) = due;
-    let stop = stopped(rt, alloc, kernel, size, (&Path::root(), &[]), stays)?;
-    let is_told = is_stopped_so(alloc, &stop, name, *why, words)?;
-    Ok(are_listed(alloc, stop.logs, logs)? && is_told)
+    let stop = stopped(rt, alloc, kernel, size, (&Path::root(), &[]), stays);
+    let is_told = is_stopped_so(rt, alloc, &stop, name, *why, words);
+    are_listed(rt, alloc, stop.logs, logs) && is_told
 }
 
 #[test]
-fn the_least_stop_of_a_phase_is_told_and_no_later_phase_is_run(
-    rt: HostRuntime,
-) -> Result<(), Fail> {
+fn the_least_stop_of_a_phase_is_told_and_no_later_phase_is_run(rt: HostRuntime) {
     for due in STOPS {
         for size in [24, 4096] {
             for stays in [false, true] {
                 assert!(rt;
-                    stops_so(&rt, rt.alloc(), size, due, stays)?,
+                    stops_so(&rt, rt.alloc(), size, due, stays),
                     "in {size}, {stays}: {}",
                     due.1
                 );
             }
         }
     }
-    Ok(())
 }
 
 // Each lane forks a region, and its log and those of its lanes are cut into pieces.
@@ -144,61 +141,60 @@ fn begin(left: &[ClosedLog<MemLog>], whole: &[ClosedLog<MemLog>]) -> bool {
 }
 
 // Whether this call on the log of this task fails, and leaves the beginnings of logs of a whole run.
-fn call_fails<R: Threads + Wait + Sync + Copy + Send + 'static>(
+fn call_fails<R: Abort + Threads + Wait + Sync + Copy + Send + 'static>(
     rt: &R,
     alloc: Global,
     task: &Path,
     call: u64,
     whole: &[ClosedLog<MemLog>],
     stays: bool,
-) -> Result<bool, Fail> {
-    let stop = stopped(rt, alloc, FORKING, 24, (task, &[call]), stays)?;
-    Ok(has_failed(&stop, task) && begin(&stop.logs, whole))
+) -> bool {
+    let stop = stopped(rt, alloc, FORKING, 24, (task, &[call]), stays);
+    has_failed(&stop, task) && begin(&stop.logs, whole)
 }
 
 // Whether each of so many calls on the log of this task fails in turn, and the next one is no more.
-fn each_call_fails<R: Threads + Wait + Sync + Copy + Send + 'static>(
+fn each_call_fails<R: Abort + Threads + Wait + Sync + Copy + Send + 'static>(
     rt: &R,
     alloc: Global,
     task: &Path,
     calls: u64,
     whole: &[ClosedLog<MemLog>],
     stays: bool,
-) -> Result<bool, Fail>
+) -> bool
     requires { calls < 100 }
 {
     for call in 1..=calls {
-        if !call_fails(rt, alloc, task, call, whole, stays)? {
-            return Ok(false);
+        if !call_fails(rt, alloc, task, call, whole, stays) {
+            return false;
         }
     }
     let past = calls + 1;
     let gate = WithoutStart::new(&NoGate);
-    Ok(run_with(rt, alloc, FORKING, 24, &gate, (task, &[past]), stays)?.is_ok())
+    run_with(rt, alloc, FORKING, 24, &gate, (task, &[past]), stays).is_ok()
 }
 
 // Each call on each log of nested regions fails in turn.
-fn all_calls_fail<R: Threads + Wait + Sync + Copy + Send + 'static>(
+fn all_calls_fail<R: Abort + Threads + Wait + Sync + Copy + Send + 'static>(
     rt: &R,
     alloc: Global,
     whole: &[ClosedLog<MemLog>],
     stays: bool,
-) -> Result<bool, Fail> {
+) -> bool {
     // On a task's log: its header, each record, and the logs of the lanes that it forks.
     let all_calls = [5, 6, 3, 3, 6, 3, 3];
     for (log, calls) in whole.iter().zip(&all_calls) {
-        if !each_call_fails(rt, alloc, &log.path, *calls, whole, stays)? {
-            return Ok(false);
+        if !each_call_fails(rt, alloc, &log.path, *calls, whole, stays) {
+            return false;
         }
     }
-    Ok(whole.len() == all_calls.len())
+    whole.len() == all_calls.len()
 }
 
 #[test]
-fn each_call_on_each_log_of_nested_regions_fails_in_turn(rt: HostRuntime) -> Result<(), Fail> {
+fn each_call_on_each_log_of_nested_regions_fails_in_turn(rt: HostRuntime) {
     for stays in [false, true] {
-        let whole = finished(&rt, rt.alloc(), FORKING, 24, stays)?;
-        assert!(rt; all_calls_fail(&rt, rt.alloc(), &whole.logs, stays)?);
+        let whole = finished(&rt, rt.alloc(), FORKING, 24, stays);
+        assert!(rt; all_calls_fail(&rt, rt.alloc(), &whole.logs, stays));
     }
-    Ok(())
 }

@@ -13,10 +13,11 @@ use memory_environment::{MemFolder, MemLog, MemOut};
 use region_runner::{Finished, Stopped, run_kernel, run_live};
 use std::alloc::Global;
 use std::marker::Send;
+use std::process::Abort;
 use std::sync::Wait;
 use std::test::Fail;
 use std::thread::Threads;
-use sw_base::{ClosedLog, Folder, Memory, NoGate, Path, Trouble};
+use sw_base::{ClosedLog, Folder, NoGate, Path, Trouble};
 use team_live::{LiveGate, WithoutStart};
 
 /// What the run of a kernel answers.
@@ -30,7 +31,7 @@ pub(crate) fn kernel_of(alloc: Global, text: &str) -> Result<Kernel, Fail>
 }
 
 /// Runs the kernel of a text, with this gate, where these calls on the log of this task are to fail. The threads of a team stay, or don't.
-pub(crate) fn run_with<R: Threads + Wait + Sync + Copy + Send + 'static, G: LiveGate>(
+pub(crate) fn run_with<R: Abort + Threads + Wait + Sync + Copy + Send + 'static, G: LiveGate>(
     rt: &R,
     alloc: Global,
     text: &str,
@@ -38,89 +39,84 @@ pub(crate) fn run_with<R: Threads + Wait + Sync + Copy + Send + 'static, G: Live
     gate: &G,
     failing: (&Path, &[u64]),
     stays: bool,
-) -> Result<Ran, Fail>
+) -> Ran
     requires { IsBufferSize size }
 {
     let (path, calls) = failing;
-    let mut folder = MemFolder::new(alloc)?;
-    folder.fail_log(path, calls)?;
-    let root = folder.root(alloc, "d")?;
-    let kernel = kernel_of(alloc, text)?;
-    Ok(if stays {
+    let mut folder = MemFolder::new(alloc).expect(rt, "memory");
+    folder.fail_log(path, calls).expect(rt, "memory");
+    let root = folder.root(alloc, "d").expect(rt, "memory");
+    let kernel = match kernel_of(alloc, text) {
+        Ok(kernel) => kernel,
+        Err(_fail) => panic!(rt; "no kernel"),
+    };
+    if stays {
         run_live(rt, alloc, &kernel, root, size, gate)
     } else {
         run_kernel(rt, alloc, &kernel, root, size, gate)
-    })
+    }
 }
 
 /// The end of a run of the kernel.
-pub(crate) fn finished<R: Threads + Wait + Sync + Copy + Send + 'static>(
+pub(crate) fn finished<R: Abort + Threads + Wait + Sync + Copy + Send + 'static>(
     rt: &R,
     alloc: Global,
     text: &str,
     size: usize,
     stays: bool,
-) -> Result<Finished<MemLog>, Fail>
+) -> Finished<MemLog>
     requires { IsBufferSize size }
 {
     let gate = WithoutStart::new(&NoGate);
-    let ran = run_with(rt, alloc, text, size, &gate, (&Path::root(), &[]), stays)?;
-    Ok(ran.ok().ok_or("stopped")?)
+    let ran = run_with(rt, alloc, text, size, &gate, (&Path::root(), &[]), stays);
+    ran.ok().expect(rt, "an end")
 }
 
 /// The stop of a run of the kernel, where these calls on the log of this task fail.
-pub(crate) fn stopped<R: Threads + Wait + Sync + Copy + Send + 'static>(
+pub(crate) fn stopped<R: Abort + Threads + Wait + Sync + Copy + Send + 'static>(
     rt: &R,
     alloc: Global,
     text: &str,
     size: usize,
     failing: (&Path, &[u64]),
     stays: bool,
-) -> Result<Stopped<MemLog>, Fail>
+) -> Stopped<MemLog>
     requires { IsBufferSize size }
 {
     let gate = WithoutStart::new(&NoGate);
-    let ran = run_with(rt, alloc, text, size, &gate, failing, stays)?;
-    Ok(ran.err().ok_or("ended")?)
+    let ran = run_with(rt, alloc, text, size, &gate, failing, stays);
+    ran.err().expect(rt, "a stop")
 }
 
 // Seals these logs, up to one that can't be, and gives their rows.
 fn sealed(
+    rt: &impl Abort,
     alloc: Global,
     folder: &mut MemFolder,
     logs: Vec<ClosedLog<MemLog>>,
-) -> Result<Vec<Row>, Memory> {
+) -> Vec<Row> {
     let mut rows = Vec::new(alloc);
     for ClosedLog { path, log, records } in logs {
         if folder.seal(alloc, log).is_err() {
             break;
         }
-        rows.push(Row { path, records })?;
+        rows.push(Row { path, records }).expect(rt, "memory");
     }
-    Ok(rows)
-}
-
-// Whether the folder's logs of these rows are listed so.
-fn are_printed(
-    alloc: Global,
-    folder: &mut MemFolder,
-    rows: &[Row],
-    text: &str,
-) -> Result<bool, Memory> {
-    let mut out = MemOut::new(alloc)?;
-    let is_listed = list(alloc, folder, &mut out, "d", rows).is_ok();
-    Ok(is_listed && out.written() == text.as_bytes())
+    rows
 }
 
 /// Whether these are the names of the logs, in order, each with the records that it has.
 pub(crate) fn are_listed(
+    rt: &impl Abort,
     alloc: Global,
     logs: Vec<ClosedLog<MemLog>>,
     text: &str,
-) -> Result<bool, Memory> {
-    let mut folder = MemFolder::new(alloc)?;
-    let rows = sealed(alloc, &mut folder, logs)?;
-    are_printed(alloc, &mut folder, &rows, text)
+) -> bool {
+    let mut folder = MemFolder::new(alloc).expect(rt, "memory");
+    let rows = sealed(rt, alloc, &mut folder, logs);
+    let mut out = MemOut::new(alloc).expect(rt, "memory");
+    let is_listed = list(alloc, &mut folder, &mut out, "d", &rows).is_ok();
+    is_listed && out.written() == text.as_bytes()
 }
 
 /// Whether these logs have the same bytes, one by one.
@@ -134,14 +130,15 @@ pub(crate) fn have_same_bytes(one: &[ClosedLog<MemLog>], other: &[ClosedLog<MemL
 
 /// Whether a run stopped in the task of this name, for this reason, with these words.
 pub(crate) fn is_stopped_so(
+    rt: &impl Abort,
     alloc: Global,
     stopped: &Stopped<MemLog>,
     name: &str,
     why: Stop,
     words: &[u64],
-) -> Result<bool, Memory> {
-    let is_named = stopped.path.bare_name(alloc)?.as_str() == name;
-    Ok(is_named && stopped.why == why && stopped.words.as_slice() == words)
+) -> bool {
+    let found = stopped.path.bare_name(alloc).expect(rt, "memory");
+    found.as_str() == name && stopped.why == why && stopped.words.as_slice() == words
 }
 
 /// Whether a run stopped since a call on the log of this task failed.

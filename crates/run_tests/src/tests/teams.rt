@@ -9,11 +9,11 @@ use lane_runner::Stop;
 use memory_environment::MemLog;
 use std::alloc::Global;
 use std::marker::Send;
+use std::process::Abort;
 use std::sync::Wait;
 use std::sync::atomic::{AtomicU64, Ordering};
-use std::test::Fail;
 use std::thread::Threads;
-use sw_base::{ClosedLog, Gate, Memory, NoGate, Path, Trouble};
+use sw_base::{ClosedLog, Gate, NoGate, Path, Trouble};
 use team_live::WithoutStart;
 
 // Each of two lanes adds 1 to every other element.
@@ -82,24 +82,25 @@ const DIVIDED: Stop = Stop::DivZero { line: 4 };
 type Size<'a> = (&'a str, u32, usize);
 
 // A log is of a task of this name, with so many records and bytes.
-fn is_sized(alloc: Global, log: &ClosedLog<MemLog>, due: &Size<'_>) -> Result<bool, Memory> {
+fn is_sized(rt: &impl Abort, alloc: Global, log: &ClosedLog<MemLog>, due: &Size<'_>) -> bool {
     let (name, records, bytes) = due;
-    let is_named = log.path.bare_name(alloc)?.as_str() == *name;
-    Ok(is_named && log.records == *records && log.log.bytes().len() == *bytes)
+    let found = log.path.bare_name(alloc).expect(rt, "memory");
+    found.as_str() == *name && log.records == *records && log.log.bytes().len() == *bytes
 }
 
 // These are the logs, in order.
 fn are_sized(
+    rt: &impl Abort,
     alloc: Global,
     logs: &[ClosedLog<MemLog>],
     expected: &[Size<'_>],
-) -> Result<bool, Memory> {
+) -> bool {
     for (log, due) in logs.iter().zip(expected) {
-        if !is_sized(alloc, log, due)? {
-            return Ok(false);
+        if !is_sized(rt, alloc, log, due) {
+            return false;
         }
     }
-    Ok(logs.len() == expected.len())
+    logs.len() == expected.len()
 }
 
 fn has_pieces(log: Option<&ClosedLog<MemLog>>, lengths: &[usize]) -> bool {
@@ -126,39 +127,36 @@ const PIECES: &[(usize, &[usize])] = &[
 ];
 
 // Whether the counting lanes end with a buffer of this size, with these pieces of lane 0's log, and with the same bytes as a whole run.
-fn is_cut_so<R: Threads + Wait + Sync + Copy + Send + 'static>(
+fn is_cut_so<R: Abort + Threads + Wait + Sync + Copy + Send + 'static>(
     rt: &R,
     alloc: Global,
     size: usize,
     lengths: &[usize],
     whole: &[ClosedLog<MemLog>],
     stays: bool,
-) -> Result<bool, Fail>
+) -> bool
     requires { IsBufferSize size }
 {
-    let cut = finished(rt, alloc, COUNTING, size, stays)?;
-    Ok(
-        cut.words.as_slice() == [1; 8].as_slice()
-            && has_pieces(cut.logs.get(1), lengths)
-            && have_same_bytes(&cut.logs, whole),
-    )
+    let cut = finished(rt, alloc, COUNTING, size, stays);
+    cut.words.as_slice() == [1; 8].as_slice()
+        && has_pieces(cut.logs.get(1), lengths)
+        && have_same_bytes(&cut.logs, whole)
 }
 
 #[test]
-fn pieces_fill_the_buffer_and_the_bytes_stay_the_same(rt: HostRuntime) -> Result<(), Fail> {
+fn pieces_fill_the_buffer_and_the_bytes_stay_the_same(rt: HostRuntime) {
     let alloc = rt.alloc();
-    let whole = finished(&rt, alloc, COUNTING, 4_194_304, false)?;
-    assert!(rt; are_sized(alloc, &whole.logs, COUNTED)?);
+    let whole = finished(&rt, alloc, COUNTING, 4_194_304, false);
+    assert!(rt; are_sized(&rt, alloc, &whole.logs, COUNTED));
     for (size, lengths) in PIECES {
         assert!(rt; *size >= 24 && *size <= 4_194_304);
         for stays in [false, true] {
             assert!(rt;
-                is_cut_so(&rt, alloc, *size, lengths, &whole.logs, stays)?,
+                is_cut_so(&rt, alloc, *size, lengths, &whole.logs, stays),
                 "at {size}, {stays}"
             );
         }
     }
-    Ok(())
 }
 
 // A read of 8 bytes at site 1 in line 5, at 4096, of 0; and a write of 8 bytes in line 5, at 4096, of 1.
@@ -182,10 +180,9 @@ fn begins_with_first_records(log: Option<&ClosedLog<MemLog>>) -> bool {
 }
 
 #[test]
-fn the_first_records_of_a_lane_are_spelled_in_its_log(rt: HostRuntime) -> Result<(), Fail> {
-    let logs = finished(&rt, rt.alloc(), COUNTING, 4096, false)?.logs;
+fn the_first_records_of_a_lane_are_spelled_in_its_log(rt: HostRuntime) {
+    let logs = finished(&rt, rt.alloc(), COUNTING, 4096, false).logs;
     assert!(rt; begins_with_first_records(logs.get(1)));
-    Ok(())
 }
 
 /// A kernel, the task that stops and why, the words then, and the logs.
@@ -244,30 +241,24 @@ const STOPS: &[Stopping<'static>] = &[
 ];
 
 // Whether the kernel stops so.
-fn stops_so<R: Threads + Wait + Sync + Copy + Send + 'static>(
+fn stops_so<R: Abort + Threads + Wait + Sync + Copy + Send + 'static>(
     rt: &R,
     alloc: Global,
     due: &Stopping<'_>,
     stays: bool,
-) -> Result<bool, Fail> {
+) -> bool {
     let (text, name, why, words, logs) = due;
-    let stop = stopped(rt, alloc, text, 4096, (&Path::root(), &[]), stays)?;
-    let is_told = is_stopped_so(alloc, &stop, name, *why, words)?;
-    Ok(are_sized(alloc, &stop.logs, logs)? && is_told)
+    let stop = stopped(rt, alloc, text, 4096, (&Path::root(), &[]), stays);
+    is_stopped_so(rt, alloc, &stop, name, *why, words) && are_sized(rt, alloc, &stop.logs, logs)
 }
 
 #[test]
-fn the_least_lane_that_stopped_is_answered(rt: HostRuntime) -> Result<(), Fail> {
+fn the_least_lane_that_stopped_is_answered(rt: HostRuntime) {
     for due in STOPS {
         for stays in [false, true] {
-            assert!(rt;
-                stops_so(&rt, rt.alloc(), due, stays)?,
-                "{stays}: {}",
-                due.1
-            );
+            assert!(rt; stops_so(&rt, rt.alloc(), due, stays), "{stays}: {}", due.1);
         }
     }
-    Ok(())
 }
 
 // A barrier in line 3.
@@ -283,7 +274,7 @@ fn ends_with_barrier(log: Option<&ClosedLog<MemLog>>) -> bool {
 }
 
 #[test]
-fn lanes_that_wait_have_their_barrier_last(rt: HostRuntime) -> Result<(), Fail> {
+fn lanes_that_wait_have_their_barrier_last(rt: HostRuntime) {
     let stop = stopped(
         &rt,
         rt.alloc(),
@@ -291,9 +282,8 @@ fn lanes_that_wait_have_their_barrier_last(rt: HostRuntime) -> Result<(), Fail> 
         4096,
         (&Path::root(), &[]),
         false,
-    )?;
+    );
     assert!(rt; ends_with_barrier(stop.logs.get(3)));
-    Ok(())
 }
 
 // Two lanes that fill two blocks of 4,096 bytes, and put more.
@@ -304,58 +294,58 @@ loop k in 0 .. 1600 { a[tid] = k }
 ";
 
 // Whether the run of the kernel answers that this call on the log of this task fails, where it does.
-fn call_fails<R: Threads + Wait + Sync + Copy + Send + 'static>(
+fn call_fails<R: Abort + Threads + Wait + Sync + Copy + Send + 'static>(
     rt: &R,
     alloc: Global,
     kernel: (&str, usize),
     task: &Path,
     call: u64,
     stays: bool,
-) -> Result<bool, Fail>
+) -> bool
     requires { IsBufferSize kernel.1 }
 {
     let (text, size) = kernel;
-    let stop = stopped(rt, alloc, text, size, (task, &[call]), stays)?;
-    Ok(has_failed(&stop, task) && stop.words.len() == 8 && !stop.logs.is_empty())
+    let stop = stopped(rt, alloc, text, size, (task, &[call]), stays);
+    has_failed(&stop, task) && stop.words.len() == 8 && !stop.logs.is_empty()
 }
 
 // Whether the run of the kernel with blocks of this size ends where this call on the log of this task fails.
-fn ends<R: Threads + Wait + Sync + Copy + Send + 'static>(
+fn ends<R: Abort + Threads + Wait + Sync + Copy + Send + 'static>(
     rt: &R,
     alloc: Global,
     kernel: (&str, usize),
     task: &Path,
     call: u64,
     stays: bool,
-) -> Result<bool, Fail>
+) -> bool
     requires { IsBufferSize kernel.1 }
 {
     let (text, size) = kernel;
     let gate = WithoutStart::new(&NoGate);
-    Ok(run_with(rt, alloc, text, size, &gate, (task, &[call]), stays)?.is_ok())
+    run_with(rt, alloc, text, size, &gate, (task, &[call]), stays).is_ok()
 }
 
 // Whether four calls on the log of this task fail in turn, and the next one is no more. On the root's log: its header, two lanes, and its
 // two records. On a lane's: its header, two full blocks, and the rest.
-fn four_calls_fail<R: Threads + Wait + Sync + Copy + Send + 'static>(
+fn four_calls_fail<R: Abort + Threads + Wait + Sync + Copy + Send + 'static>(
     rt: &R,
     alloc: Global,
     kernel: (&str, usize),
     task: &Path,
     stays: bool,
-) -> Result<bool, Fail>
+) -> bool
     requires { IsBufferSize kernel.1 }
 {
     for call in 1..=4 {
-        if !call_fails(rt, alloc, kernel, task, call, stays)? {
-            return Ok(false);
+        if !call_fails(rt, alloc, kernel, task, call, stays) {
+            return false;
         }
     }
     ends(rt, alloc, kernel, task, 5, stays)
 }
 
 #[test]
-fn each_call_on_each_log_fails_in_turn(rt: HostRuntime) -> Result<(), Fail> {
+fn each_call_on_each_log_fails_in_turn(rt: HostRuntime) {
     let alloc = rt.alloc();
     // Blocks for four records, which the lane appends, and blocks that its writer appends.
     for (text, size, stays) in [
@@ -364,49 +354,46 @@ fn each_call_on_each_log_fails_in_turn(rt: HostRuntime) -> Result<(), Fail> {
         (FILLING, 16_384, false),
         (FILLING, 16_384, true),
     ] {
-        assert!(rt; four_calls_fail(&rt, alloc, (text, size), &Path::root(), stays)?);
+        assert!(rt; four_calls_fail(&rt, alloc, (text, size), &Path::root(), stays));
         for lane in [0, 1] {
             let task = Path::root().child(0, lane, 2);
-            assert!(rt; four_calls_fail(&rt, alloc, (text, size), &task, stays)?);
+            assert!(rt; four_calls_fail(&rt, alloc, (text, size), &task, stays));
         }
     }
     // With a block for one record the root's log takes five calls.
-    assert!(rt; !ends(&rt, alloc, (COUNTING, 24), &Path::root(), 5, false)?);
-    assert!(rt; ends(&rt, alloc, (COUNTING, 24), &Path::root(), 6, false)?);
-    Ok(())
+    assert!(rt; !ends(&rt, alloc, (COUNTING, 24), &Path::root(), 5, false));
+    assert!(rt; ends(&rt, alloc, (COUNTING, 24), &Path::root(), 6, false));
 }
 
 // Whether lane 1's leaving of the array is answered, where this call on the log of this task fails, with the logs of all tasks.
-fn lane_1_leaves<R: Threads + Wait + Sync + Copy + Send + 'static>(
+fn lane_1_leaves<R: Abort + Threads + Wait + Sync + Copy + Send + 'static>(
     rt: &R,
     alloc: Global,
     text: &str,
     task: &Path,
     call: u64,
-) -> Result<bool, Fail> {
-    let stop = stopped(rt, alloc, text, 4096, (task, &[call]), false)?;
-    Ok(stop.path == Path::root().child(0, 1, 2) && stop.why == LEFT && stop.logs.len() == 3)
+) -> bool {
+    let stop = stopped(rt, alloc, text, 4096, (task, &[call]), false);
+    stop.path == Path::root().child(0, 1, 2) && stop.why == LEFT && stop.logs.len() == 3
 }
 
 #[test]
-fn a_stop_or_failure_of_the_least_lane_is_answered(rt: HostRuntime) -> Result<(), Fail> {
+fn a_stop_or_failure_of_the_least_lane_is_answered(rt: HostRuntime) {
     let alloc = rt.alloc();
     let first = Path::root().child(0, 0, 2);
     // After the stop of a lane the root's log is closed, and a failure of that call leaves the stop.
-    assert!(rt; lane_1_leaves(&rt, alloc, LEAVING, &Path::root(), 4)?);
+    assert!(rt; lane_1_leaves(&rt, alloc, LEAVING, &Path::root(), 4));
     // So is the log of a lane that waits, with the same result.
-    assert!(rt; lane_1_leaves(&rt, alloc, LEAVING, &first, 2)?);
+    assert!(rt; lane_1_leaves(&rt, alloc, LEAVING, &first, 2));
     // A lane that ended is closed after the last phase, so the stop stays there too.
-    assert!(rt; lane_1_leaves(&rt, alloc, LEAVING_UNBARRED, &first, 2)?);
-    Ok(())
+    assert!(rt; lane_1_leaves(&rt, alloc, LEAVING_UNBARRED, &first, 2));
 }
 
 #[test]
-fn of_two_lanes_that_stop_the_first_is_answered(rt: HostRuntime) -> Result<(), Fail> {
+fn of_two_lanes_that_stop_the_first_is_answered(rt: HostRuntime) {
     let first = Path::root().child(0, 0, 2);
-    let stop = stopped(&rt, rt.alloc(), LEAVING, 24, (&first, &[2]), false)?;
+    let stop = stopped(&rt, rt.alloc(), LEAVING, 24, (&first, &[2]), false);
     assert!(rt; has_failed(&stop, &first));
-    Ok(())
 }
 
 // Whether the first words are 1, from 20 to 30 of a thousand, and the others 0.
@@ -419,13 +406,11 @@ fn are_few_stores(words: &[u64]) -> bool {
 }
 
 #[test]
-fn a_failed_log_lacks_few_of_the_stores(rt: HostRuntime) -> Result<(), Fail> {
+fn a_failed_log_lacks_few_of_the_stores(rt: HostRuntime) {
     // A buffer for ten records: the second one fails after 20 stores at least, and nobody stores once 30 records aren't there.
     let text = "array a i64 1000 main { loop i in 0 .. 1000 { a[i] = 1 } }";
-    let stop = stopped(&rt, rt.alloc(), text, 240, (&Path::root(), &[3]), false)?;
-    assert!(rt; stop.why == Stop::Trouble(Trouble::Failed));
-    assert!(rt; are_few_stores(&stop.words));
-    Ok(())
+    let stop = stopped(&rt, rt.alloc(), text, 240, (&Path::root(), &[3]), false);
+    assert!(rt; stop.why == Stop::Trouble(Trouble::Failed) && are_few_stores(&stop.words));
 }
 
 // Counts how often each of two lanes starts a phase, and whoever else enters.
@@ -443,26 +428,26 @@ impl Gate for CountingGate {
 }
 
 // Whether this kernel's run starts each of two lanes so often, and no other.
-fn starts<R: Threads + Wait + Sync + Copy + Send + 'static>(
+fn starts<R: Abort + Threads + Wait + Sync + Copy + Send + 'static>(
     rt: &R,
     alloc: Global,
     text: &str,
     phases: u64,
     stays: bool,
-) -> Result<bool, Fail> {
+) -> bool {
     let gate = CountingGate {
         lanes: [AtomicU64::new(0), AtomicU64::new(0)],
         others: AtomicU64::new(0),
     };
     let told = WithoutStart::new(&gate);
-    let _ = run_with(rt, alloc, text, 4096, &told, (&Path::root(), &[]), stays)?;
+    let _ = run_with(rt, alloc, text, 4096, &told, (&Path::root(), &[]), stays);
     let first = gate.lanes[0].load(Ordering::SeqCst);
     let second = gate.lanes[1].load(Ordering::SeqCst);
-    Ok(first == phases && second == phases && gate.others.load(Ordering::SeqCst) == 0)
+    first == phases && second == phases && gate.others.load(Ordering::SeqCst) == 0
 }
 
 #[test]
-fn the_gate_sees_each_lane_start_each_phase(rt: HostRuntime) -> Result<(), Fail> {
+fn the_gate_sees_each_lane_start_each_phase(rt: HostRuntime) {
     // A loop that waits at its end is followed by an empty phase, and one that doesn't by none. After a stop no phase starts.
     let table = [
         (COUNTING, 2),
@@ -473,10 +458,9 @@ fn the_gate_sees_each_lane_start_each_phase(rt: HostRuntime) -> Result<(), Fail>
     for (text, phases) in table {
         for stays in [false, true] {
             assert!(rt;
-                starts(&rt, rt.alloc(), text, phases, stays)?,
+                starts(&rt, rt.alloc(), text, phases, stays),
                 "{stays}: {text}"
             );
         }
     }
-    Ok(())
 }

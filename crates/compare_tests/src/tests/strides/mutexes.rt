@@ -1,32 +1,28 @@
 //! The mutexes that a task holds: how many at most, and which of them is given back.
 
 use mutex_set::{Held, HeldFault, NotInnermost};
-use std::test::Fail;
 
 #[test]
-fn holds_eight_at_most(rt: HostRuntime) -> Result<(), Fail> {
+fn holds_eight_at_most(rt: HostRuntime) {
     let mut held = Held::none();
     for id in 1..9 {
-        held.enter(id)?;
+        held.enter(id).expect(&rt, "a place");
     }
     assert!(rt; held.enter(9) == Err(HeldFault::Deep));
     assert!(rt; held.enter(3) == Err(HeldFault::HeldAlready));
     assert!(rt; held.ids() == [1, 2, 3, 4, 5, 6, 7, 8].as_slice());
-    Ok(())
 }
 
 #[test]
-fn gives_back_the_innermost_alone(rt: HostRuntime) -> Result<(), Fail> {
+fn gives_back_the_innermost_alone(rt: HostRuntime) {
     let mut held = Held::none();
-    held.enter(7)?;
-    held.enter(65535)?;
+    held.enter(7).expect(&rt, "a place");
+    held.enter(65535).expect(&rt, "a place");
     let before = held.copy();
     assert!(rt; held.leave(7) == Err(NotInnermost));
     assert!(rt; held.ids() == before.ids());
-    held.leave(65535)?;
-    assert!(rt; held.ids() == [7].as_slice());
-    assert!(rt; !held.disjoint(&before));
-    held.leave(7)?;
+    held.leave(65535).expect(&rt, "the innermost");
+    assert!(rt; held.ids() == [7].as_slice() && !held.disjoint(&before));
+    held.leave(7).expect(&rt, "the innermost");
     assert!(rt; held.disjoint(&before));
-    Ok(())
 }

@@ -1,6 +1,6 @@
 use mutex_set::Held;
-use std::alloc::{AllocError, Global};
-use std::test::Fail;
+use std::alloc::Global;
+use std::process::Abort;
 use stride_overlap::overlap;
 use stride_summary::Run;
 
@@ -65,22 +65,26 @@ fn interleaved_runs_are_apart(rt: HostRuntime) {
 #[test]
 fn runs_meet_at_a_common_multiple_in_both(rt: HostRuntime) {
     let threes = (3, 9, 2, 1);
-    assert!(rt; meet((0, 6, 3, 1), threes) == Some(true));
-    assert!(rt; meet((0, 6, 2, 1), threes) == Some(false));
+    assert!(rt;
+        meet((0, 6, 3, 1), threes) == Some(true) && meet((0, 6, 2, 1), threes) == Some(false)
+    );
 }
 
 #[test]
 fn eight_bytes_meet_their_last_and_not_the_next(rt: HostRuntime) {
     let eight = (100, 0, 1, 8);
-    assert!(rt; meet(eight, (107, 0, 1, 1)) == Some(true));
-    assert!(rt; meet(eight, (108, 0, 1, 1)) == Some(false));
+    assert!(rt;
+        meet(eight, (107, 0, 1, 1)) == Some(true) && meet(eight, (108, 0, 1, 1)) == Some(false)
+    );
 }
 
 #[test]
 fn long_runs_of_even_strides_meet_at_even_bytes(rt: HostRuntime) {
     let long = (0, 67_108_864, 4_194_304, 1);
-    assert!(rt; meet(long, (1, 67_108_862, 4_194_304, 1)) == Some(false));
-    assert!(rt; meet(long, (2, 67_108_862, 4_194_304, 1)) == Some(true));
+    assert!(rt;
+        meet(long, (1, 67_108_862, 4_194_304, 1)) == Some(false)
+            && meet(long, (2, 67_108_862, 4_194_304, 1)) == Some(true)
+    );
 }
 
 const TOP: u64 = (1 << 48) - 9;
@@ -103,17 +107,17 @@ fn the_greatest_numbers_are_met(rt: HostRuntime) {
     }
 }
 
-fn small_runs(alloc: Global) -> Result<Vec<(Run, u64)>, AllocError> {
+fn small_runs(rt: &impl Abort, alloc: Global) -> Vec<(Run, u64)> {
     let mut runs = Vec::new(alloc);
     for number in 0..1664 {
         let (base, stride) = (number / 128, number / 16 % 8);
         let (count, size) = (number / 4 % 4 + 1, 1 << (number % 4));
         if let Some(run) = run_of(base, stride, count as u32, size as u8) {
             let bytes = bytes_of(&run);
-            runs.push((run, bytes))?;
+            runs.push((run, bytes)).expect(rt, "memory");
         }
     }
-    Ok(runs)
+    runs
 }
 
 // Whether a run overlaps with each of these exactly where their bytes do.
@@ -127,11 +131,10 @@ fn overlaps_as_its_bytes(run: &Run, bytes: u64, runs: &[(Run, u64)]) -> bool {
 }
 
 #[test]
-fn small_runs_overlap_where_their_bytes_do(rt: HostRuntime) -> Result<(), Fail> {
-    let runs = small_runs(rt.alloc())?;
+fn small_runs_overlap_where_their_bytes_do(rt: HostRuntime) {
+    let runs = small_runs(&rt, rt.alloc());
     assert!(rt; runs.len() == 1144);
     for (run, bytes) in &runs {
         assert!(rt; overlaps_as_its_bytes(run, *bytes, &runs));
     }
-    Ok(())
 }

@@ -1,23 +1,22 @@
 ghost use Rattle.std.specs.Prelude.{◌+◌, ◌^◌, ◌≤◌};
 ghost use Rattle.log_format.specs.Table.{IsAccessSize};
 
-use mutex_set::{Held, HeldFault};
-use std::alloc::{AllocError, Global};
-use std::test::Fail;
+use mutex_set::Held;
+use std::alloc::Global;
+use std::process::Abort;
 use stride_summary::{Access, Run, Summary};
-use sw_base::Memory;
 
-fn holding(mutexes: &[u16]) -> Result<Held, HeldFault> {
+fn holding(rt: &impl Abort, mutexes: &[u16]) -> Held {
     let mut held = Held::none();
     for mutex in mutexes {
-        held.enter(*mutex)?;
+        held.enter(*mutex).expect(rt, "a place");
     }
-    Ok(held)
+    held
 }
 
 #[test]
-fn copies_an_access(rt: HostRuntime) -> Result<(), Fail> {
-    let held = holding(&[3])?;
+fn copies_an_access(rt: HostRuntime) {
+    let held = holding(&rt, &[3]);
     let access = Access {
         write: true,
         atomic: true,
@@ -28,9 +27,12 @@ fn copies_an_access(rt: HostRuntime) -> Result<(), Fail> {
         held: &held,
     };
     let same = access.copy();
-    assert!(rt; same.write && same.atomic && same.held.ids() == [3].as_slice());
-    assert!(rt; (same.size, same.site, same.line, same.addr) == (8, 1, 5, 4096));
-    Ok(())
+    assert!(rt;
+        same.write
+            && same.atomic
+            && same.held.ids() == [3].as_slice()
+            && (same.size, same.site, same.line, same.addr) == (8, 1, 5, 4096)
+    );
 }
 
 #[test]
@@ -79,39 +81,42 @@ fn write_at<'h>(line: u32, addr: u64, held: &'h Held) -> Access<'h>
     }
 }
 
-fn runs_of(alloc: Global, writes: &[(u32, u64)]) -> Result<Vec<Run>, Memory> {
-    let mut summary = Summary::new(alloc)?;
+fn runs_of(rt: &impl Abort, alloc: Global, writes: &[(u32, u64)]) -> Vec<Run> {
+    let mut summary = Summary::new(alloc).expect(rt, "memory");
     for (line, addr) in writes {
         if *addr <= (1 << 48) - 8 {
-            summary.add(&write_at(*line, *addr, &Held::none()))?;
+            summary
+                .add(&write_at(*line, *addr, &Held::none()))
+                .expect(rt, "memory");
         }
     }
-    Ok(summary.finish())
+    summary.finish()
 }
 
 // Of a run its line, its first address, the distance and how many.
 type Shape = (u32, u64, u64, u32);
 
 // The shapes of the runs of these writes.
-fn shapes_of(alloc: Global, writes: &[(u32, u64)]) -> Result<Vec<Shape>, Memory> {
+fn shapes_of(rt: &impl Abort, alloc: Global, writes: &[(u32, u64)]) -> Vec<Shape> {
     let mut shapes = Vec::new(alloc);
-    for run in &runs_of(alloc, writes)? {
-        shapes.push((run.line, run.base, run.stride, run.count))?;
+    for run in &runs_of(rt, alloc, writes) {
+        shapes
+            .push((run.line, run.base, run.stride, run.count))
+            .expect(rt, "memory");
     }
-    Ok(shapes)
+    shapes
 }
 
 // Whether the runs of these writes have these shapes.
-fn has_shapes(alloc: Global, writes: &[(u32, u64)], due: &[Shape]) -> Result<bool, Memory> {
-    let shapes = shapes_of(alloc, writes)?;
-    Ok(shapes.as_slice() == due)
+fn has_shapes(rt: &impl Abort, alloc: Global, writes: &[(u32, u64)], due: &[Shape]) -> bool {
+    shapes_of(rt, alloc, writes).as_slice() == due
 }
 
 // The shapes by their lines.
-fn sorted_shapes_of(alloc: Global, writes: &[(u32, u64)]) -> Result<Vec<Shape>, Memory> {
-    let mut shapes = shapes_of(alloc, writes)?;
-    shapes.sort()?;
-    Ok(shapes)
+fn sorted_shapes_of(rt: &impl Abort, alloc: Global, writes: &[(u32, u64)]) -> Vec<Shape> {
+    let mut shapes = shapes_of(rt, alloc, writes);
+    shapes.sort().expect(rt, "memory");
+    shapes
 }
 
 #[test]
@@ -124,36 +129,36 @@ fn an_address_that_comes_again_is_there_once(rt: HostRuntime) {
         ),
     ];
     for (writes, due) in table {
-        assert!(rt; has_shapes(rt.alloc(), writes, due) == Ok(true), "{due:?}");
+        assert!(rt; has_shapes(&rt, rt.alloc(), writes, due), "{due:?}");
     }
 }
 
 #[test]
-fn a_run_may_go_to_the_last_byte_there_is(rt: HostRuntime) -> Result<(), Fail> {
-    let top = runs_of(rt.alloc(), &[(1, (1 << 48) - 8), (1, 0)])?;
+fn a_run_may_go_to_the_last_byte_there_is(rt: HostRuntime) {
+    let top = runs_of(&rt, rt.alloc(), &[(1, (1 << 48) - 8), (1, 0)]);
     assert!(rt; matches!(top.as_slice(), [run] if run.high() == (1 << 48) - 1));
-    Ok(())
 }
 
 // The 100 addresses in an order of the step, which has no common divisor with 100, each ten times.
-fn writes_by(alloc: Global, step: u64) -> Result<Vec<(u32, u64)>, AllocError> {
+fn writes_by(rt: &impl Abort, alloc: Global, step: u64) -> Vec<(u32, u64)> {
     let mut writes = Vec::new(alloc);
     for number in 0..1000u64 {
         let place = number % 100 * (step % 100) % 100;
-        writes.push((7, 4096 + place * 8 + place / 60 * 40))?;
+        writes
+            .push((7, 4096 + place * 8 + place / 60 * 40))
+            .expect(rt, "memory");
     }
-    Ok(writes)
+    writes
 }
 
 #[test]
-fn runs_are_the_same_in_every_order(rt: HostRuntime) -> Result<(), Fail> {
+fn runs_are_the_same_in_every_order(rt: HostRuntime) {
     let alloc = rt.alloc();
     let due = [(7, 4096, 8, 60), (7, 4616, 8, 40)];
     for step in [1, 99, 37] {
-        let writes = writes_by(alloc, step)?;
-        assert!(rt; has_shapes(alloc, &writes, &due) == Ok(true), "by {step}");
+        let writes = writes_by(&rt, alloc, step);
+        assert!(rt; has_shapes(&rt, alloc, &writes, &due), "by {step}");
     }
-    Ok(())
 }
 
 // Whether there are so many runs, of the lines from 0 on, and each has this first address, distance and number of addresses.
@@ -167,43 +172,45 @@ fn have_keys(found: &[Shape], keys: u32, due: (u64, u64, u32)) -> bool {
 }
 
 // Ten keys, each with ten addresses; which comes next jumps about.
-fn jumping_writes(alloc: Global) -> Result<Vec<(u32, u64)>, AllocError> {
+fn jumping_writes(rt: &impl Abort, alloc: Global) -> Vec<(u32, u64)> {
     let mut writes = Vec::new(alloc);
     for number in 0..500u32 {
         let place = number % 100 * 37 % 100;
-        writes.push((place % 10, 4096 + u64::from(place / 10) * 24))?;
+        writes
+            .push((place % 10, 4096 + u64::from(place / 10) * 24))
+            .expect(rt, "memory");
     }
-    Ok(writes)
+    writes
 }
 
 #[test]
-fn keys_that_take_turns_in_any_order_have_runs_of_their_own(rt: HostRuntime) -> Result<(), Fail> {
+fn keys_that_take_turns_in_any_order_have_runs_of_their_own(rt: HostRuntime) {
     let alloc = rt.alloc();
-    let writes = jumping_writes(alloc)?;
-    let found = sorted_shapes_of(alloc, &writes)?;
+    let writes = jumping_writes(&rt, alloc);
+    let found = sorted_shapes_of(&rt, alloc, &writes);
     assert!(rt; have_keys(&found, 10, (4096, 24, 10)));
-    Ok(())
 }
 
 // So many writes of so many keys in turn.
-fn writes_in_turn(alloc: Global, keys: u32, all: u32) -> Result<Vec<(u32, u64)>, AllocError> {
+fn writes_in_turn(rt: &impl Abort, alloc: Global, keys: u32, all: u32) -> Vec<(u32, u64)> {
     let mut writes = Vec::new(alloc);
     for number in 0..all {
         let round = number / keys.max(1);
-        writes.push((number % keys.max(1), 4096 + u64::from(round) * 16))?;
+        writes
+            .push((number % keys.max(1), 4096 + u64::from(round) * 16))
+            .expect(rt, "memory");
     }
-    Ok(writes)
+    writes
 }
 
 #[test]
-fn keys_that_take_turns_have_strided_runs_of_their_own(rt: HostRuntime) -> Result<(), Fail> {
+fn keys_that_take_turns_have_strided_runs_of_their_own(rt: HostRuntime) {
     let alloc = rt.alloc();
     for (keys, all, each) in [(3, 300, 100), (17_000, 51_000, 3)] {
-        let writes = writes_in_turn(alloc, keys, all)?;
-        let found = sorted_shapes_of(alloc, &writes)?;
+        let writes = writes_in_turn(&rt, alloc, keys, all);
+        let found = sorted_shapes_of(&rt, alloc, &writes);
         assert!(rt; have_keys(&found, keys, (4096, 16, each)), "{keys} keys");
     }
-    Ok(())
 }
 
 // All of an access but its address: whether it writes, and in one step with a read, its size, site, line and mutexes.
@@ -222,12 +229,12 @@ const KEYS: [Key<'static>; 9] = [
 ];
 
 // An access at one address, with this key but these mutexes.
-fn keyed<'h>(key: &Key<'_>, held: &'h Held) -> Result<Access<'h>, Fail> {
+fn keyed<'h>(rt: &impl Abort, key: &Key<'_>, held: &'h Held) -> Access<'h> {
     let (write, atomic, size, site, line, _) = *key;
     if !matches!(size, 1 | 2 | 4 | 8) {
-        return Err(Fail::from("no size of an access"));
+        panic!(rt; "no size of an access");
     }
-    Ok(Access {
+    Access {
         write,
         atomic,
         size,
@@ -235,41 +242,40 @@ fn keyed<'h>(key: &Key<'_>, held: &'h Held) -> Result<Access<'h>, Fail> {
         line,
         addr: 64,
         held,
-    })
+    }
 }
 
 // Adds an access of each key.
-fn add_keys(summary: &mut Summary) -> Result<(), Fail> {
+fn add_keys(rt: &impl Abort, summary: &mut Summary) {
     for key in &KEYS {
-        let held = holding(key.5)?;
-        summary.add(&keyed(key, &held)?)?;
+        let held = holding(rt, key.5);
+        summary.add(&keyed(rt, key, &held)).expect(rt, "memory");
     }
-    Ok(())
 }
 
 #[test]
-fn the_key_has_all_but_the_address(rt: HostRuntime) -> Result<(), Fail> {
-    let mut summary = Summary::new(rt.alloc())?;
-    add_keys(&mut summary)?;
-    add_keys(&mut summary)?;
+fn the_key_has_all_but_the_address(rt: HostRuntime) {
+    let mut summary = Summary::new(rt.alloc()).expect(&rt, "memory");
+    add_keys(&rt, &mut summary);
+    add_keys(&rt, &mut summary);
     assert!(rt; summary.finish().len() == 9);
-    Ok(())
 }
 
 #[test]
-fn the_last_byte_may_be_the_last_there_is(rt: HostRuntime) -> Result<(), Fail> {
+fn the_last_byte_may_be_the_last_there_is(rt: HostRuntime) {
     let last = (1 << 48) - 1;
-    let mut summary = Summary::new(rt.alloc())?;
-    summary.add(&Access {
+    let mut summary = Summary::new(rt.alloc()).expect(&rt, "memory");
+    let held = Held::none();
+    let access = Access {
         write: false,
         atomic: false,
         size: 1,
         site: 0,
         line: 1,
-        addr: (1 << 48) - 1,
-        held: &Held::none(),
-    })?;
+        addr: last,
+        held: &held,
+    };
+    summary.add(&access).expect(&rt, "memory");
     let runs = summary.finish();
     assert!(rt; matches!(runs.as_slice(), [run] if (run.low(), run.high()) == (last, last)));
-    Ok(())
 }

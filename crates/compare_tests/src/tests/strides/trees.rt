@@ -2,10 +2,10 @@ ghost use Rattle.std.specs.Prelude.{◌≡◌, ◌+◌, ◌^◌, ◌<◌};
 
 use interval_tree::{Steps, Tree, Visit};
 use mutex_set::Held;
-use std::alloc::{AllocError, Global};
+use std::alloc::Global;
 use std::marker::Brand;
+use std::process::Abort;
 use std::sync::ledger::{Blank, Ledger};
-use std::test::Fail;
 use stride_summary::Run;
 use sw_base::Memory;
 
@@ -85,29 +85,25 @@ fn meets(alloc: Global, tree: &Tree, bytes: (u64, u64), most: usize, due: (&[u32
 }
 
 #[test]
-fn finds_the_runs_that_a_range_meets(rt: HostRuntime) -> Result<(), Fail> {
+fn finds_the_runs_that_a_range_meets(rt: HostRuntime) {
     let alloc = rt.alloc();
     let runs = [run(1, 0, 0), run(2, 10, 0), run(3, 20, 0)];
-    let tree = Tree::build(alloc, &runs)?;
-    assert!(rt; tree.levels() == 2);
-    assert!(rt; meets(alloc, &tree, (2, 11), 9, (&[1, 2], false)));
-    Ok(())
+    let tree = Tree::build(alloc, &runs).expect(&rt, "memory");
+    assert!(rt; tree.levels() == 2 && meets(alloc, &tree, (2, 11), 9, (&[1, 2], false)));
 }
 
 #[test]
-fn a_tree_of_no_run_has_no_level(rt: HostRuntime) -> Result<(), Fail> {
+fn a_tree_of_no_run_has_no_level(rt: HostRuntime) {
     let alloc = rt.alloc();
-    let none = Tree::build(alloc, &[])?;
-    assert!(rt; none.levels() == 0);
-    assert!(rt; meets(alloc, &none, (0, u64::MAX), 9, (&[], false)));
-    Ok(())
+    let none = Tree::build(alloc, &[]).expect(&rt, "memory");
+    assert!(rt; none.levels() == 0 && meets(alloc, &none, (0, u64::MAX), 9, (&[], false)));
 }
 
 #[test]
-fn a_run_is_met_from_its_first_byte_to_its_last(rt: HostRuntime) -> Result<(), Fail> {
+fn a_run_is_met_from_its_first_byte_to_its_last(rt: HostRuntime) {
     let alloc = rt.alloc();
     let runs = [run(7, 100, 50)];
-    let one = Tree::build(alloc, &runs)?;
+    let one = Tree::build(alloc, &runs).expect(&rt, "memory");
     let table: [((u64, u64), &[u32]); 4] = [
         ((0, 99), &[]),
         ((0, 100), &[7]),
@@ -117,11 +113,10 @@ fn a_run_is_met_from_its_first_byte_to_its_last(rt: HostRuntime) -> Result<(), F
     for (bytes, lines) in table {
         assert!(rt; meets(alloc, &one, bytes, 9, (lines, false)), "{bytes:?}");
     }
-    Ok(())
 }
 
 // Runs by a fixed rule: many begin at one byte, and some hold others.
-fn drawn_runs(alloc: Global) -> Result<Vec<Run>, AllocError> {
+fn drawn_runs(rt: &impl Abort, alloc: Global) -> Vec<Run> {
     let mut runs = Vec::new(alloc);
     for number in 0..1000u64 {
         let base = number * 7919 % 1500 / 2 * 8;
@@ -130,56 +125,61 @@ fn drawn_runs(alloc: Global) -> Result<Vec<Run>, AllocError> {
         } else {
             number * 31 % 23
         };
-        runs.push(run(number as u32 + 1, base, stride))?;
+        runs.push(run(number as u32 + 1, base, stride))
+            .expect(rt, "memory");
     }
-    Ok(runs)
+    runs
 }
 
-fn lines_by_filter(alloc: Global, runs: &[Run], bytes: (u64, u64)) -> Result<Vec<u32>, AllocError> {
+fn lines_by_filter(rt: &impl Abort, alloc: Global, runs: &[Run], bytes: (u64, u64)) -> Vec<u32> {
     let mut found = Vec::new(alloc);
     for run in runs {
         if run.low() <= bytes.1 && run.high() >= bytes.0 {
-            found.push((run.low(), run.line))?;
+            found.push((run.low(), run.line)).expect(rt, "memory");
         }
     }
-    found.sort()?;
-    found.iter().map(|(_, line)| *line).collect(alloc)
+    found.sort().expect(rt, "memory");
+    found
+        .iter()
+        .map(|(_, line)| *line)
+        .collect(alloc)
+        .expect(rt, "memory")
 }
 
 // Whether the runs of the tree that these bytes meet are those that a filter finds.
 fn meets_as_filtered(
+    rt: &impl Abort,
     alloc: Global,
     tree: &Tree,
     runs: &[Run],
     bytes: (u64, u64),
-) -> Result<bool, AllocError> {
-    let due = lines_by_filter(alloc, runs, bytes)?;
-    Ok(meets(alloc, tree, bytes, 1000, (&due, false)))
+) -> bool {
+    let due = lines_by_filter(rt, alloc, runs, bytes);
+    meets(alloc, tree, bytes, 1000, (&due, false))
 }
 
 #[test]
-fn meets_what_a_filter_finds(rt: HostRuntime) -> Result<(), Fail> {
+fn meets_what_a_filter_finds(rt: HostRuntime) {
     let alloc = rt.alloc();
-    let runs = drawn_runs(alloc)?;
-    let tree = Tree::build(alloc, &runs)?;
+    let runs = drawn_runs(&rt, alloc);
+    let tree = Tree::build(alloc, &runs).expect(&rt, "memory");
     assert!(rt; tree.levels() == 10);
     for number in 0..500u64 {
         let lo = number * 53 % 7000;
         let bytes = (lo, lo + number % 7 * 11);
         assert!(rt;
-            meets_as_filtered(alloc, &tree, &runs, bytes) == Ok(true),
+            meets_as_filtered(&rt, alloc, &tree, &runs, bytes),
             "{bytes:?}"
         );
     }
-    Ok(())
 }
 
 #[test]
-fn hands_over_nothing_after_a_refusal(rt: HostRuntime) -> Result<(), Fail> {
+fn hands_over_nothing_after_a_refusal(rt: HostRuntime) {
     let alloc = rt.alloc();
     let one = [run(1, 40, 0), run(2, 8, 0)];
     let other = [run(3, 8, 0), run(4, 24, 0)];
-    let tree = Tree::build_all(alloc, &[one.as_slice(), other.as_slice()])?;
+    let tree = Tree::build_all(alloc, &[one.as_slice(), other.as_slice()]).expect(&rt, "memory");
     for most in 0..6usize {
         let lines = &[2, 3, 4, 1][..most.min(4)];
         assert!(rt;
@@ -187,5 +187,4 @@ fn hands_over_nothing_after_a_refusal(rt: HostRuntime) -> Result<(), Fail> {
             "{most}"
         );
     }
-    Ok(())
 }

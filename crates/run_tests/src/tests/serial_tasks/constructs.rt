@@ -3,7 +3,7 @@
 use construct_finder::first_construct;
 use kernel_reader::read_kernel;
 use std::alloc::Global;
-use std::test::Fail;
+use std::process::Abort;
 
 // The text of a kernel, and the line that is found.
 type Case<'a> = (&'a str, Option<u32>);
@@ -90,18 +90,17 @@ critical m { a[2] = 1 } } }",
 ];
 
 // The first case of which another line is found, by its number from 0.
-fn first_other(alloc: Global) -> Result<Option<usize>, Fail> {
+fn first_other(rt: &impl Abort, alloc: Global) -> Option<usize> {
     for (number, (text, due)) in CASES.iter().enumerate() {
-        let kernel = read_kernel(alloc, text.as_bytes())?;
+        let kernel = read_kernel(alloc, text.as_bytes()).expect(rt, "a kernel");
         if first_construct(&kernel) != *due {
-            return Ok(Some(number));
+            return Some(number);
         }
     }
-    Ok(None)
+    None
 }
 
 #[test]
-fn the_first_construct_is_found(rt: HostRuntime) -> Result<(), Fail> {
-    assert!(rt; first_other(rt.alloc())? == None);
-    Ok(())
+fn the_first_construct_is_found(rt: HostRuntime) {
+    assert!(rt; first_other(&rt, rt.alloc()) == None);
 }

@@ -7,8 +7,7 @@ use log_listing::list;
 use memory_environment::{MemFolder, MemOut};
 use serial_team::{SerialRun, Stop, run_serially};
 use std::alloc::Global;
-use std::test::Fail;
-use sw_base::Memory as NoMemory;
+use std::process::Abort;
 
 // The text of a kernel, how many records its run may make, and what becomes of it.
 type Case<'a> = (&'a str, u32, &'a str);
@@ -124,63 +123,61 @@ if tid { a[0] = 1 } else { a[4] = 1 }
 ];
 
 // Adds the words and the listing of all logs.
-fn put_run(alloc: Global, text: &mut String, run: &SerialRun) -> Result<(), NoMemory> {
-    put_words(text, &run.words)?;
-    let mut folder = MemFolder::new(alloc)?;
+fn put_run(rt: &impl Abort, alloc: Global, text: &mut String, run: &SerialRun) {
+    put_words(text, &run.words).expect(rt, "memory");
+    let mut folder = MemFolder::new(alloc).expect(rt, "memory");
     let mut rows = Vec::new(alloc);
     for task in run.logs.iter() {
-        let name = task.path.name(alloc, "d")?;
-        folder.hold(name.as_str(), task.log.as_slice())?;
+        let name = task.path.name(alloc, "d").expect(rt, "memory");
+        folder
+            .hold(name.as_str(), task.log.as_slice())
+            .expect(rt, "memory");
         let path = task.path.copy();
         let records = task.records;
-        rows.push(Row { path, records })?;
+        rows.push(Row { path, records }).expect(rt, "memory");
     }
-    let mut out = MemOut::new(alloc)?;
+    let mut out = MemOut::new(alloc).expect(rt, "memory");
     if list(alloc, &mut folder, &mut out, "d", &rows).is_err() {
-        text.push_str("no listing")?;
+        text.push_str("no listing").expect(rt, "memory");
     }
-    text.push_str(&String::from_utf8_lossy(alloc, out.written())?)?;
-    Ok(())
+    text.push_str(&String::from_utf8_lossy(alloc, out.written()).expect(rt, "memory"))
+        .expect(rt, "memory");
 }
 
 // Adds a line for a stop.
-fn put_stop(alloc: Global, text: &mut String, stop: &Stop) -> Result<(), NoMemory> {
+fn put_stop(rt: &impl Abort, alloc: Global, text: &mut String, stop: &Stop) {
     match stop {
         Stop::Stopped { path, line, why } => {
-            let name = path.bare_name(alloc)?;
-            write!(text, "stopped {name} line {line}: {why:?}\n")?;
+            let name = path.bare_name(alloc).expect(rt, "memory");
+            write!(text, "stopped {name} line {line}: {why:?}\n").expect(rt, "memory");
         }
         Stop::Long { path, number } => {
-            let name = path.bare_name(alloc)?;
-            write!(text, "long {name} record {number}\n")?;
+            let name = path.bare_name(alloc).expect(rt, "memory");
+            write!(text, "long {name} record {number}\n").expect(rt, "memory");
         }
-        Stop::Memory => text.push_str("no memory\n")?,
+        Stop::Memory => text.push_str("no memory\n").expect(rt, "memory"),
     }
-    Ok(())
 }
 
 // What becomes of a case.
-fn told(alloc: Global, text: &str, left: u32) -> Result<String, Fail> {
-    let kernel = read_kernel(alloc, text.as_bytes())?;
+fn told(rt: &impl Abort, alloc: Global, text: &str, left: u32) -> String {
+    let kernel = read_kernel(alloc, text.as_bytes()).expect(rt, "a kernel");
     let mut story = String::new(alloc);
     if kernel.main.span != 1 {
-        story.push_str("no root")?;
-        return Ok(story);
+        story.push_str("no root").expect(rt, "memory");
+        return story;
     }
     match run_serially(alloc, &kernel, left) {
-        Ok(run) => put_run(alloc, &mut story, &run)?,
-        Err(stop) => put_stop(alloc, &mut story, &stop)?,
+        Ok(run) => put_run(rt, alloc, &mut story, &run),
+        Err(stop) => put_stop(rt, alloc, &mut story, &stop),
     }
-    Ok(story)
+    story
 }
 
 #[test]
-fn lanes_run_one_after_another(rt: HostRuntime) -> Result<(), Fail> {
+fn lanes_run_one_after_another(rt: HostRuntime) {
     for (text, left, story) in RUNS {
-        let found = told(rt.alloc(), text, *left)?;
-        if found.as_str() != *story {
-            return Err(Fail::from(found));
-        }
+        let found = told(&rt, rt.alloc(), text, *left);
+        assert!(rt; found.as_str() == *story, "{found}");
     }
-    Ok(())
 }
