@@ -9,8 +9,8 @@ use log_index::{
     IndexAnswer, IndexWhy, Row, read_index, read_index_as, read_index_old, write_index,
 };
 use memory_environment::{MemFolder, ShortReads};
-use std::alloc::{AllocError, Global};
-use sw_base::Memory;
+use std::alloc::Global;
+use std::process::Abort;
 
 // A step: its region, lane and span.
 type Step = (u32, u16, u16);
@@ -29,30 +29,42 @@ const LANE_1: Spelled = (1, 0, (0, 1, 2), NO_STEP, 10);
 
 const LONE: Spelled = (1, 0, (1, 0, 1), NO_STEP, 10);
 
-fn push_step(bytes: &mut Vec<u8>, step: Step) -> Result<(), AllocError> {
+fn push_step(rt: &impl Abort, bytes: &mut Vec<u8>, step: Step) {
     let (region, lane, span) = step;
-    bytes.extend_from_slice(&region.to_be_bytes())?;
-    bytes.extend_from_slice(&lane.to_be_bytes())?;
-    bytes.extend_from_slice(&span.to_be_bytes())
+    bytes
+        .extend_from_slice(&region.to_be_bytes())
+        .expect(rt, "memory");
+    bytes
+        .extend_from_slice(&lane.to_be_bytes())
+        .expect(rt, "memory");
+    bytes
+        .extend_from_slice(&span.to_be_bytes())
+        .expect(rt, "memory");
 }
 
-fn push_row(bytes: &mut Vec<u8>, row: Spelled) -> Result<(), AllocError> {
+fn push_row(rt: &impl Abort, bytes: &mut Vec<u8>, row: Spelled) {
     let (depth, reserved, first, second, records) = row;
-    bytes.extend_from_slice(&depth.to_be_bytes())?;
-    bytes.extend_from_slice(&reserved.to_be_bytes())?;
-    push_step(bytes, first)?;
-    push_step(bytes, second)?;
-    bytes.extend_from_slice(&[0; 16])?;
-    bytes.extend_from_slice(&records.to_be_bytes())
+    bytes
+        .extend_from_slice(&depth.to_be_bytes())
+        .expect(rt, "memory");
+    bytes
+        .extend_from_slice(&reserved.to_be_bytes())
+        .expect(rt, "memory");
+    push_step(rt, bytes, first);
+    push_step(rt, bytes, second);
+    bytes.extend_from_slice(&[0; 16]).expect(rt, "memory");
+    bytes
+        .extend_from_slice(&records.to_be_bytes())
+        .expect(rt, "memory");
 }
 
 // The bytes of this header and these rows.
-fn spelled(alloc: Global, header: &[u8], rows: &[Spelled]) -> Result<Vec<u8>, AllocError> {
-    let mut bytes = Vec::from_slice(alloc, header)?;
+fn spelled(rt: &impl Abort, alloc: Global, header: &[u8], rows: &[Spelled]) -> Vec<u8> {
+    let mut bytes = Vec::from_slice(alloc, header).expect(rt, "memory");
     for row in rows {
-        push_row(&mut bytes, *row)?;
+        push_row(rt, &mut bytes, *row);
     }
-    Ok(bytes)
+    bytes
 }
 
 const HEADER: &[u8] = b"SWIDX002";
@@ -90,26 +102,28 @@ fn bad(row: u32, why: IndexWhy) -> Option<IndexAnswer> {
 }
 
 // Whether these are the rows, in order, each with the name of its log and its records.
-fn are_rows(alloc: Global, rows: &[Row], due: &[(&str, u32)]) -> Result<bool, Memory> {
+fn are_rows(rt: &impl Abort, alloc: Global, rows: &[Row], due: &[(&str, u32)]) -> bool {
     for (row, (name, records)) in rows.iter().zip(due) {
-        if row.path.bare_name(alloc)?.as_str() != *name || row.records != *records {
-            return Ok(false);
+        let spelled_name = row.path.bare_name(alloc).expect(rt, "memory");
+        if spelled_name.as_str() != *name || row.records != *records {
+            return false;
         }
     }
-    Ok(rows.len() == due.len())
+    rows.len() == due.len()
 }
 
 // Whether the rows of these bytes are these, and are written as the same bytes.
 fn are_written_back(
+    rt: &impl Abort,
     alloc: Global,
     bytes: &[u8],
     due: &[(&str, u32)],
-) -> Result<[bool; 2], IndexAnswer> {
-    let rows = read(alloc, bytes)?;
-    let mut folder = MemFolder::new(alloc)?;
+) -> [bool; 2] {
+    let rows = read(alloc, bytes).expect(rt, "rows");
+    let mut folder = MemFolder::new(alloc).expect(rt, "memory");
     let is_written = write_index(alloc, &mut folder, "d", &rows).is_ok();
     let is_same = is_written && folder.file(INDEX) == Some(bytes);
-    Ok([are_rows(alloc, &rows, due)?, is_same])
+    [are_rows(rt, alloc, &rows, due), is_same]
 }
 
 const READ: [Spelled; 5] = [ROOT, LANE_0, LANE_1, (2, 0, (0, 1, 2), (0, 0, 1), 10), LONE];
@@ -125,9 +139,9 @@ const NAMED: [(&str, u32); 5] = [
 #[test]
 fn an_index_is_read_and_written_back(rt: HostRuntime) {
     let alloc = rt.alloc();
-    let bytes = spelled(alloc, HEADER, &READ).expect(&rt, "memory");
+    let bytes = spelled(&rt, alloc, HEADER, &READ);
     assert!(rt; refusal(alloc, &bytes).is_none());
-    assert!(rt; are_written_back(alloc, &bytes, &NAMED) == Ok([true, true]));
+    assert!(rt; are_written_back(&rt, alloc, &bytes, &NAMED) == [true, true]);
 }
 
 // Rows, of which the last breaks a rule.
@@ -176,17 +190,12 @@ const REFUSED: [(&[Spelled], IndexWhy); 18] = [
     ),
 ];
 
-// The refusal of an index with these rows.
-fn refusal_of_rows(alloc: Global, rows: &[Spelled]) -> Result<Option<IndexAnswer>, AllocError> {
-    let bytes = spelled(alloc, HEADER, rows)?;
-    Ok(refusal(alloc, &bytes))
-}
-
 #[test]
 fn each_rule_is_told_at_its_row(rt: HostRuntime) {
     for (rows, why) in REFUSED {
-        let refused = refusal_of_rows(rt.alloc(), rows);
-        assert!(rt; refused == Ok(bad(rows.len() as u32, why)), "{rows:?}");
+        let bytes = spelled(&rt, rt.alloc(), HEADER, rows);
+        let refused = refusal(rt.alloc(), &bytes);
+        assert!(rt; refused == bad(rows.len() as u32, why), "{rows:?}");
     }
 }
 
@@ -202,7 +211,7 @@ fn refusal_of_prefix(alloc: Global, bytes: &[u8], count: usize) -> Option<IndexA
 #[test]
 fn an_index_cut_short_is_told(rt: HostRuntime) {
     let alloc = rt.alloc();
-    let bytes = spelled(alloc, HEADER, &[ROOT, LANE_0, LANE_1]).expect(&rt, "memory");
+    let bytes = spelled(&rt, alloc, HEADER, &[ROOT, LANE_0, LANE_1]);
     assert!(rt; bytes.len() == 152);
     let table = [
         (151, bad(3, IndexWhy::Cut)),
@@ -273,34 +282,25 @@ fn read_first(alloc: Global, bytes: &[u8]) -> Result<usize, IndexAnswer> {
     Ok(rows.len())
 }
 
-// What is answered of this header and these rows as an index of each format.
-fn answered(
-    alloc: Global,
-    header: &[u8],
-    rows: &[Spelled],
-) -> Result<(Option<IndexAnswer>, Result<usize, IndexAnswer>), AllocError> {
-    let bytes = spelled(alloc, header, rows)?;
-    Ok((refusal(alloc, &bytes), read_first(alloc, &bytes)))
-}
-
 #[test]
 fn the_header_tells_the_format(rt: HostRuntime) {
     for (header, rows, second, first) in HEADERS {
-        let answers = answered(rt.alloc(), header, rows);
-        assert!(rt; answers == Ok((second, first)), "of {header:?}");
+        let bytes = spelled(&rt, rt.alloc(), header, rows);
+        let answers = (refusal(rt.alloc(), &bytes), read_first(rt.alloc(), &bytes));
+        assert!(rt; answers == (second, first), "of {header:?}");
     }
 }
 
 // The bytes of an index with 65,536 rows.
-fn full_index(alloc: Global) -> Result<Vec<u8>, AllocError> {
-    let mut bytes = spelled(alloc, HEADER, &[ROOT])?;
+fn full_index(rt: &impl Abort, alloc: Global) -> Vec<u8> {
+    let mut bytes = spelled(rt, alloc, HEADER, &[ROOT]);
     for region in 0..1024 {
         let span = if region < 1023 { 64 } else { 63 };
         for number in 0..span {
-            push_row(&mut bytes, (1, 0, (region, number, span), NO_STEP, 10))?;
+            push_row(rt, &mut bytes, (1, 0, (region, number, span), NO_STEP, 10));
         }
     }
-    Ok(bytes)
+    bytes
 }
 
 // How many rows these bytes have.
@@ -314,7 +314,7 @@ fn count(alloc: Global, bytes: &[u8]) -> Option<usize> {
 #[test]
 fn an_index_has_at_most_65536_rows(rt: HostRuntime) {
     let alloc = rt.alloc();
-    let mut bytes = full_index(alloc).expect(&rt, "memory");
+    let mut bytes = full_index(&rt, alloc);
     let most = (refusal(alloc, &bytes), count(alloc, &bytes));
     assert!(rt; most == (None, Some(65_536)), "{most:?}");
     bytes.push(0).expect(&rt, "memory");
@@ -323,34 +323,32 @@ fn an_index_has_at_most_65536_rows(rt: HostRuntime) {
 
 // The refusal of a folder in which the name holds these bytes and this call fails.
 fn refusal_failing(
+    rt: &impl Abort,
     alloc: Global,
     name: &str,
     bytes: &[u8],
     call: u64,
-) -> Result<Option<IndexAnswer>, Memory> {
-    let mut folder = folder_of(alloc, name, bytes)?;
-    folder.fail(&[call])?;
-    Ok(read_index(alloc, &mut folder, "d").err())
+) -> Option<IndexAnswer> {
+    let mut folder = folder_of(alloc, name, bytes).expect(rt, "memory");
+    folder.fail(&[call]).expect(rt, "memory");
+    read_index(alloc, &mut folder, "d").err()
 }
 
 #[test]
 fn each_read_that_fails_is_told(rt: HostRuntime) {
     let alloc = rt.alloc();
     let rows = [ROOT, (1, 0, (0, 0, 1), NO_STEP, 10), LONE];
-    let bytes = spelled(alloc, HEADER, &rows).expect(&rt, "memory");
+    let bytes = spelled(&rt, alloc, HEADER, &rows);
     // The size, and reads of 48, 48, 48, 8 and no bytes.
     for call in 1..7 {
-        let answer = refusal_failing(alloc, INDEX, &bytes, call);
-        assert!(rt;
-            answer == Ok(Some(IndexAnswer::ReadFault)),
-            "at call {call}"
-        );
+        let answer = refusal_failing(&rt, alloc, INDEX, &bytes, call);
+        assert!(rt; answer == Some(IndexAnswer::ReadFault), "at call {call}");
     }
-    assert!(rt; refusal_failing(alloc, INDEX, &bytes, 7) == Ok(None));
+    assert!(rt; refusal_failing(&rt, alloc, INDEX, &bytes, 7) == None);
 }
 
 #[test]
 fn a_folder_without_an_index_has_none(rt: HostRuntime) {
-    let refused = refusal_failing(rt.alloc(), "d/index", HEADER, 0);
-    assert!(rt; refused == Ok(Some(IndexAnswer::NoIndex)));
+    let refused = refusal_failing(&rt, rt.alloc(), "d/index", HEADER, 0);
+    assert!(rt; refused == Some(IndexAnswer::NoIndex));
 }

@@ -6,6 +6,7 @@ use crate::tests::support::folder_of;
 use memory_environment::{MemFolder, MemLog, MemOut};
 use std::alloc::Global;
 use std::cmp::Ordering;
+use std::process::Abort;
 use sw_base::{
     Folder, Gate, INDEX_HEADER, LOG_HEADER, Log, Memory, NoGate, OLD_INDEX_HEADER, OLD_LOG_HEADER,
     Out, Path, Step, Trouble, index_name, read_file,
@@ -186,19 +187,20 @@ fn append_to_first(alloc: Global, root: &mut MemLog) -> Result<(), Trouble>
 
 // What three appends to the log of lane 1 answer, and whether it has these bytes then, in one piece.
 fn append_to_second(
+    rt: &impl Abort,
     alloc: Global,
     root: &mut MemLog,
     bytes: &[u8],
-) -> Result<([Result<(), Trouble>; 3], bool), Trouble>
+) -> ([Result<(), Trouble>; 3], bool)
     requires { path_of root.old ≡ [] }
 {
-    let mut second = lane_of(alloc, root, 1, 2)?;
+    let mut second = lane_of(alloc, root, 1, 2).expect(rt, "memory");
     let answers = [
         append(alloc, &mut second, b"yz"),
         append(alloc, &mut second, b"u"),
         append(alloc, &mut second, b"vw"),
     ];
-    Ok((answers, has(&second, bytes, &[1])))
+    (answers, has(&second, bytes, &[1]))
 }
 
 #[test]
@@ -211,9 +213,9 @@ fn planned_calls_of_later_logs_fail(rt: HostRuntime) {
         append_to_first(alloc, &mut root).err(),
     ];
     assert!(rt; answers == [None, Some(Trouble::Failed), None]);
-    let second = append_to_second(alloc, &mut root, b"yuv");
+    let second = append_to_second(&rt, alloc, &mut root, b"yuv");
     let due = [Err(Trouble::Failed), Ok(()), Err(Trouble::Failed)];
-    assert!(rt; second == Ok((due, true)));
+    assert!(rt; second == (due, true));
 }
 
 // Whether the name holds these bytes.
@@ -259,29 +261,29 @@ const SEALED: [(usize, &str, &[usize], bool); 4] = [
 ];
 
 // Whether the logs of a root and a lane get one piece and two, and are sealed.
-fn seal_both(alloc: Global, folder: &mut MemFolder) -> Result<bool, Trouble> {
-    let mut root = root_of(alloc, folder)?;
-    let mut lane = lane_of(alloc, &mut root, 1, 2)?;
+fn seal_both(rt: &impl Abort, alloc: Global, folder: &mut MemFolder) -> bool {
+    let mut root = root_of(alloc, folder).expect(rt, "memory");
+    let mut lane = lane_of(alloc, &mut root, 1, 2).expect(rt, "memory");
     let appended = [
         append(alloc, &mut root, b"root"),
         append(alloc, &mut lane, b"la"),
         append(alloc, &mut lane, b"nes"),
     ];
     let sealed = [seal(alloc, folder, root), seal(alloc, folder, lane)];
-    Ok(appended == [Ok(()), Ok(()), Ok(())] && sealed == [true; 2])
+    appended == [Ok(()), Ok(()), Ok(())] && sealed == [true; 2]
 }
 
 #[test]
 fn a_sealed_log_is_held_under_its_name(rt: HostRuntime) {
     let alloc = rt.alloc();
     let mut folder = MemFolder::new(alloc).expect(&rt, "memory");
-    let sealed = seal_both(alloc, &mut folder);
+    let sealed = seal_both(&rt, alloc, &mut folder);
     let told = [
         holds(&folder, "d/t.swl", b"root"),
         holds(&folder, "d/t-0.1.swl", b"lanes"),
         is_free(&folder, 2),
     ];
-    assert!(rt; sealed == Ok(true) && told == [true; 3]);
+    assert!(rt; sealed && told == [true; 3]);
     for (at, name, lengths, due) in SEALED {
         assert!(rt;
             is_sealed(&folder, at, name, lengths) == due,
@@ -329,10 +331,10 @@ fn a_file_is_read_from_a_place_on(rt: HostRuntime) {
 }
 
 // How long the file is that is read whole.
-fn length_of(alloc: Global, folder: &mut MemFolder, name: &str) -> Result<Option<usize>, Trouble> {
-    match read_file(alloc, folder, name)? {
-        Some(file) => Ok(Some(file.len())),
-        None => Ok(None),
+fn length_of(rt: &impl Abort, alloc: Global, folder: &mut MemFolder, name: &str) -> Option<usize> {
+    match read_file(alloc, folder, name).expect(rt, "memory") {
+        Some(file) => Some(file.len()),
+        None => None,
     }
 }
 
@@ -342,10 +344,10 @@ fn a_file_longer_than_a_window_is_read_whole(rt: HostRuntime) {
     let bytes = vec![in alloc; 7u8; 9000].expect(&rt, "memory");
     let mut folder = folder_of(alloc, "name", &bytes).expect(&rt, "memory");
     let lengths = [
-        length_of(alloc, &mut folder, "name"),
-        length_of(alloc, &mut folder, "none"),
+        length_of(&rt, alloc, &mut folder, "name"),
+        length_of(&rt, alloc, &mut folder, "none"),
     ];
-    assert!(rt; lengths == [Ok(Some(9000)), Ok(None)]);
+    assert!(rt; lengths == [Some(9000), None]);
 }
 
 // Makes calls of a folder once, and tells which answers were errors.
@@ -359,24 +361,24 @@ fn errors_of_files(alloc: Global, folder: &mut MemFolder) -> [bool; 3] {
 }
 
 // The same of those on logs.
-fn errors_of_logs(alloc: Global, folder: &mut MemFolder) -> Result<[bool; 2], Memory> {
+fn errors_of_logs(rt: &impl Abort, alloc: Global, folder: &mut MemFolder) -> [bool; 2] {
     let is_refused = folder.root(alloc, "d").is_err();
-    let log = MemLog::new(alloc, "d")?;
-    Ok([is_refused, folder.seal(alloc, log).is_err()])
+    let log = MemLog::new(alloc, "d").expect(rt, "memory");
+    [is_refused, folder.seal(alloc, log).is_err()]
 }
 
 // A folder whose call of this number fails.
-fn failing_folder(alloc: Global, number: u64) -> Result<MemFolder, Memory> {
-    let mut folder = MemFolder::new(alloc)?;
-    folder.fail(&[number])?;
-    Ok(folder)
+fn failing_folder(rt: &impl Abort, alloc: Global, number: u64) -> MemFolder {
+    let mut folder = MemFolder::new(alloc).expect(rt, "memory");
+    folder.fail(&[number]).expect(rt, "memory");
+    folder
 }
 
 // Which answers were errors where the call of this number fails.
-fn errors_where_one_fails(alloc: Global, number: u64) -> Result<([bool; 3], [bool; 2]), Memory> {
-    let mut folder = failing_folder(alloc, number)?;
+fn errors_where_one_fails(rt: &impl Abort, alloc: Global, number: u64) -> ([bool; 3], [bool; 2]) {
+    let mut folder = failing_folder(rt, alloc, number);
     let of_files = errors_of_files(alloc, &mut folder);
-    Ok((of_files, errors_of_logs(alloc, &mut folder)?))
+    (of_files, errors_of_logs(rt, alloc, &mut folder))
 }
 
 #[test]
@@ -390,16 +392,16 @@ fn calls_of_a_folder_fail_by_their_number(rt: HostRuntime) {
         (5, ([false, false, false], [false, true])),
     ];
     for (number, due) in table {
-        let found = errors_where_one_fails(rt.alloc(), number);
-        assert!(rt; found == Ok(due), "at call {number}");
+        let found = errors_where_one_fails(&rt, rt.alloc(), number);
+        assert!(rt; found == due, "at call {number}");
     }
 }
 
 // A log with one piece.
-fn one_piece(alloc: Global) -> Result<MemLog, Trouble> {
-    let mut log = MemLog::new(alloc, "d")?;
-    log.append(alloc, b"abcd")?;
-    Ok(log)
+fn one_piece(rt: &impl Abort, alloc: Global) -> MemLog {
+    let mut log = MemLog::new(alloc, "d").expect(rt, "memory");
+    log.append(alloc, b"abcd").expect(rt, "memory");
+    log
 }
 
 // Whether the log is whole, half of it is under its name, and it isn't sealed.
@@ -424,7 +426,7 @@ fn fails_to_seal(alloc: Global, folder: &mut MemFolder, log: MemLog) -> bool {
 #[test]
 fn a_seal_that_fails_gives_the_log_back(rt: HostRuntime) {
     let alloc = rt.alloc();
-    let log = one_piece(alloc).expect(&rt, "memory");
-    let mut folder = failing_folder(alloc, 1).expect(&rt, "memory");
+    let log = one_piece(&rt, alloc);
+    let mut folder = failing_folder(&rt, alloc, 1);
     assert!(rt; fails_to_seal(alloc, &mut folder, log));
 }

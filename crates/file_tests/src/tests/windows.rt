@@ -4,6 +4,7 @@ ghost use Rattle.std.specs.Prelude.{◌≡◌, ◌+◌, ◌<◌, ◌≤◌};
 use crate::tests::support::folder_of;
 use memory_environment::ShortReads;
 use std::alloc::Global;
+use std::process::Abort;
 use sw_base::{Folder, Trouble, Window};
 
 // Whether these bytes are ahead.
@@ -134,11 +135,13 @@ fn a_read_that_fails_loses_nothing(rt: HostRuntime) {
 }
 
 // Whether a file of these bytes begins with the header, and how many bytes are ahead then.
-fn header_passed(alloc: Global, bytes: &[u8]) -> Result<(bool, usize), Trouble> {
-    let mut folder = folder_of(alloc, "name", bytes)?;
-    let mut window = Window::new(alloc, 10)?;
-    let passed = window.pass_header(alloc, &mut folder, "name", b"SWLOG001")?;
-    Ok((passed, window.ahead().len()))
+fn header_passed(rt: &impl Abort, alloc: Global, bytes: &[u8]) -> (bool, usize) {
+    let mut folder = folder_of(alloc, "name", bytes).expect(rt, "memory");
+    let mut window = Window::new(alloc, 10).expect(rt, "memory");
+    let passed = window
+        .pass_header(alloc, &mut folder, "name", b"SWLOG001")
+        .expect(rt, "bytes");
+    (passed, window.ahead().len())
 }
 
 // The bytes of a file, whether they begin with the header, and how many are ahead then.
@@ -153,7 +156,7 @@ const HEADERS: [(&[u8], bool, usize); 5] = [
 #[test]
 fn a_header_is_passed_where_all_of_it_is_there(rt: HostRuntime) {
     for (bytes, passed, ahead) in HEADERS {
-        let found = header_passed(rt.alloc(), bytes);
-        assert!(rt; found == Ok((passed, ahead)), "of {bytes:?}");
+        let found = header_passed(&rt, rt.alloc(), bytes);
+        assert!(rt; found == (passed, ahead), "of {bytes:?}");
     }
 }

@@ -3,8 +3,9 @@
 use generated_run::{accesses, generate, segments};
 use memory_environment::MemFolder;
 use std::alloc::Global;
+use std::process::Abort;
 use std::test::Fail;
-use sw_base::{Memory, Trouble};
+use sw_base::Trouble;
 
 // The root's fork of eight lanes.
 const REGION: &[u8] = &[
@@ -87,8 +88,8 @@ fn first_other(folder: &MemFolder) -> Option<&'static str> {
 
 #[test]
 fn records_are_spelled_in_their_logs(rt: HostRuntime) -> Result<(), Fail> {
-    let mut folder = MemFolder::new(rt.alloc())?;
-    generate(rt.alloc(), &mut folder, "g", 4)?;
+    let mut folder = MemFolder::new(rt.alloc()).expect(&rt, "memory");
+    generate(rt.alloc(), &mut folder, "g", 4).expect(&rt, "a run");
     match first_other(&folder) {
         Some(name) => Err(Fail::from(name)),
         None => Ok(()),
@@ -116,39 +117,37 @@ const PUT: &[(u64, &str)] = &[
 
 // Whether what was put before this call is there, and nothing that would have been put after it.
 fn has_first(folder: &MemFolder, call: u64) -> bool {
-    PUT.iter().all(|(put, name)| {
+    for (put, name) in PUT {
         let held = folder.file(name).is_some();
-        if *put < call {
-            held
-        } else {
-            *put == call || !held
+        if (*put < call && !held) || (*put > call && held) {
+            return false;
         }
-    })
+    }
+    true
 }
 
 // The folder where this call failed, if it is told.
-fn failed_at(alloc: Global, call: u64) -> Result<Option<MemFolder>, Memory> {
-    let mut folder = MemFolder::new(alloc)?;
-    folder.hold("g/other", b"kept")?;
-    folder.fail(&[call])?;
+fn failed_at(rt: &impl Abort, alloc: Global, call: u64) -> Option<MemFolder> {
+    let mut folder = MemFolder::new(alloc).expect(rt, "memory");
+    folder.hold("g/other", b"kept").expect(rt, "memory");
+    folder.fail(&[call]).expect(rt, "memory");
     match generate(alloc, &mut folder, "g", 1) {
-        Err(Trouble::Failed) => Ok(Some(folder)),
-        _ => Ok(None),
+        Err(Trouble::Failed) => Some(folder),
+        _ => None,
     }
 }
 
 // Whether this call fails, and leaves what was put before it and the file that was there.
-fn leaves_first(alloc: Global, call: u64) -> Result<bool, Memory> {
-    let Some(folder) = failed_at(alloc, call)? else {
-        return Ok(false);
-    };
-    Ok(file(&folder, "g/other").len() == 4 && has_first(&folder, call))
+fn leaves_first(rt: &impl Abort, alloc: Global, call: u64) -> bool {
+    match failed_at(rt, alloc, call) {
+        Some(folder) => file(&folder, "g/other").len() == 4 && has_first(&folder, call),
+        None => false,
+    }
 }
 
 #[test]
-fn after_a_failed_call_no_later_log_is_there(rt: HostRuntime) -> Result<(), Fail> {
+fn after_a_failed_call_no_later_log_is_there(rt: HostRuntime) {
     for call in 1..11 {
-        assert!(rt; leaves_first(rt.alloc(), call)?, "at call {call}");
+        assert!(rt; leaves_first(&rt, rt.alloc(), call), "at call {call}");
     }
-    Ok(())
 }

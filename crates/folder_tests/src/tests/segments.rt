@@ -5,8 +5,9 @@ use log_segment::{Segment, Walk, first_label};
 use mutex_set::Held;
 use span_label::{Label, Triple};
 use std::alloc::Global;
+use std::process::Abort;
 use std::test::Fail;
-use sw_base::{Memory, Path};
+use sw_base::Path;
 
 const WRITE: Record = Record {
     kind: Kind::Write,
@@ -18,15 +19,16 @@ const WRITE: Record = Record {
 };
 
 // The segments of a root that writes and ends.
-fn segments_of_root(alloc: Global) -> Result<Vec<Segment>, Memory> {
+fn segments_of_root(rt: &impl Abort, alloc: Global) -> Vec<Segment> {
     let path = Path::root();
     let forks: Vec<Vec<Label>> = Vec::new(alloc);
     let mut walk = Walk::new(alloc, first_label(&forks, &path));
     let held = Held::none();
     let mut found = Vec::new(alloc);
-    walk.step(alloc, &path, 1, &WRITE, &held, &mut found)?;
-    walk.close(&path, 2, &mut found)?;
-    Ok(found)
+    walk.step(alloc, &path, 1, &WRITE, &held, &mut found)
+        .expect(rt, "memory");
+    walk.close(&path, 2, &mut found).expect(rt, "memory");
+    found
 }
 
 // Whether the segment's runs are the write alone.
@@ -54,11 +56,10 @@ fn is_of_root(segment: &Segment) -> bool {
 
 #[test]
 fn a_root_alone_has_one_segment(rt: HostRuntime) -> Result<(), Fail> {
-    let found = segments_of_root(rt.alloc())?;
+    let found = segments_of_root(&rt, rt.alloc());
     let [segment] = found.as_slice() else {
         return Err(Fail::new("not one segment"));
     };
-    assert!(rt; is_of_root(segment));
-    assert!(rt; has_one_write(segment));
+    assert!(rt; is_of_root(segment) && has_one_write(segment));
     Ok(())
 }

@@ -4,11 +4,10 @@ ghost use Rattle.std.specs.Prelude.{◌<◌, ◌^◌, ◌≤◌};
 use super::walks::{Rec, Row, Told, fault_told, index_of, log_of};
 use log_walk::{RecordWhy, Segment, Sweep, WalkFault};
 use memory_environment::MemFolder;
-use std::alloc::{AllocError, Global};
+use std::alloc::Global;
 use std::marker::Sync;
-use std::test::Fail;
+use std::process::Abort;
 use std::thread::Threads;
-use sw_base::Memory;
 
 const BARRIER: Rec = (5, 0, 5, 0, 0);
 
@@ -40,40 +39,53 @@ const PLAIN: Lane = Lane {
     last: (2, 8, 9, 8192, 0),
 };
 
-fn records_of(alloc: Global, lane: &Lane) -> Result<Vec<Rec>, AllocError> {
+fn records_of(rt: &impl Abort, alloc: Global, lane: &Lane) -> Vec<Rec> {
     let mut records = Vec::new(alloc);
     for number in 0..lane.writes {
-        records.push((2, 8, 3, 4096 + 8 * u64::from(number), 0))?;
+        records
+            .push((2, 8, 3, 4096 + 8 * u64::from(number), 0))
+            .expect(rt, "memory");
         if number < lane.barriers {
-            records.push(BARRIER)?;
+            records.push(BARRIER).expect(rt, "memory");
         }
     }
-    records.extend_from_slice(&[lane.last, END])?;
-    Ok(records)
+    records
+        .extend_from_slice(&[lane.last, END])
+        .expect(rt, "memory");
+    records
 }
 
 // Puts the log of this lane into the folder, and tells how many records it has.
 fn hold_lane(
+    rt: &impl Abort,
     alloc: Global,
     folder: &mut MemFolder,
     name: &str,
     lane: &Lane,
-) -> Result<u32, Memory> {
-    let records = records_of(alloc, lane)?;
-    folder.hold(name, &log_of(alloc, &records)?)?;
-    Ok(records.len().min(u32::MAX as usize) as u32)
+) -> u32 {
+    let records = records_of(rt, alloc, lane);
+    folder
+        .hold(name, &log_of(rt, alloc, &records))
+        .expect(rt, "memory");
+    records.len().min(u32::MAX as usize) as u32
 }
 
 // The folder of a team of these lanes, the second of which forks another team where its last record is a fork of two lanes.
-fn team(alloc: Global, lanes: &[Lane; 4]) -> Result<MemFolder, Memory> {
-    let mut folder = MemFolder::new(alloc)?;
-    folder.hold("d/t.swl", &log_of(alloc, ROOT)?)?;
-    folder.hold("d/t-0.1-0.0.swl", &log_of(alloc, INNER)?)?;
-    folder.hold("d/t-0.1-0.1.swl", &log_of(alloc, INNER)?)?;
-    let zero = hold_lane(alloc, &mut folder, "d/t-0.0.swl", &lanes[0])?;
-    let one = hold_lane(alloc, &mut folder, "d/t-0.1.swl", &lanes[1])?;
-    let two = hold_lane(alloc, &mut folder, "d/t-0.2.swl", &lanes[2])?;
-    let three = hold_lane(alloc, &mut folder, "d/t-0.3.swl", &lanes[3])?;
+fn team(rt: &impl Abort, alloc: Global, lanes: &[Lane; 4]) -> MemFolder {
+    let mut folder = MemFolder::new(alloc).expect(rt, "memory");
+    folder
+        .hold("d/t.swl", &log_of(rt, alloc, ROOT))
+        .expect(rt, "memory");
+    folder
+        .hold("d/t-0.1-0.0.swl", &log_of(rt, alloc, INNER))
+        .expect(rt, "memory");
+    folder
+        .hold("d/t-0.1-0.1.swl", &log_of(rt, alloc, INNER))
+        .expect(rt, "memory");
+    let zero = hold_lane(rt, alloc, &mut folder, "d/t-0.0.swl", &lanes[0]);
+    let one = hold_lane(rt, alloc, &mut folder, "d/t-0.1.swl", &lanes[1]);
+    let two = hold_lane(rt, alloc, &mut folder, "d/t-0.2.swl", &lanes[2]);
+    let three = hold_lane(rt, alloc, &mut folder, "d/t-0.3.swl", &lanes[3]);
     let rows: [Row<'static>; 7] = [
         (&[], 2),
         (&[(0, 0, 4)], zero),
@@ -83,8 +95,10 @@ fn team(alloc: Global, lanes: &[Lane; 4]) -> Result<MemFolder, Memory> {
         (&[(0, 2, 4)], two),
         (&[(0, 3, 4)], three),
     ];
-    folder.hold("d/index.swi", &index_of(alloc, &rows)?)?;
-    Ok(folder)
+    folder
+        .hold("d/index.swi", &index_of(rt, alloc, &rows))
+        .expect(rt, "memory");
+    folder
 }
 
 // The second lane's log, which forks a team of two lanes.
@@ -122,26 +136,17 @@ fn is_same(one: &Segment, other: &Segment) -> bool {
 }
 
 fn are_same(some: &[Segment], others: &[Segment]) -> bool {
-    some.len() == others.len()
-        && some
-            .iter()
-            .zip(others)
-            .all(|(one, other)| is_same(one, other))
-}
-
-// What is told of the folder by so many workers.
-fn told_by<R: Threads + Sync>(rt: &R, alloc: Global, folder: &mut MemFolder, workers: usize) -> Told
-    requires { 1 ≤ workers }
-{
-    match by(rt, alloc, folder, workers) {
-        Ok(_found) => Told::Good,
-        Err(fault) => fault_told(&fault),
+    for (one, other) in some.iter().zip(others) {
+        if !is_same(one, other) {
+            return false;
+        }
     }
+    some.len() == others.len()
 }
 
-// What is told of it one log after another.
-fn told_alone(alloc: Global, folder: &mut MemFolder) -> Told {
-    match alone(alloc, folder) {
+// What is told where the first region was read so.
+fn told_of(first: Result<Option<Vec<Segment>>, WalkFault>) -> Told {
+    match first {
         Ok(_found) => Told::Good,
         Err(fault) => fault_told(&fault),
     }
@@ -150,42 +155,37 @@ fn told_alone(alloc: Global, folder: &mut MemFolder) -> Told {
 // Whether each number of workers tells this of the folder, as it is told of one log after another.
 fn is_told<R: Threads + Sync>(rt: &R, alloc: Global, folder: &mut MemFolder, due: Told) -> bool {
     for workers in [1, 2, 4, 64] {
-        if told_by(rt, alloc, folder, workers) != due {
+        if told_of(by(rt, alloc, folder, workers)) != due {
             return false;
         }
     }
-    told_alone(alloc, folder) == due
+    told_of(alone(alloc, folder)) == due
 }
 
-fn give_the_same<R: Threads + Sync>(
-    rt: &R,
-    alloc: Global,
-    lanes: &[Lane; 4],
-) -> Result<bool, Fail> {
-    let mut folder = team(alloc, lanes)?;
+fn give_the_same<R: Abort + Threads + Sync>(rt: &R, alloc: Global, lanes: &[Lane; 4]) -> bool {
+    let mut folder = team(rt, alloc, lanes);
     let Ok(Some(due)) = alone(alloc, &mut folder) else {
-        return Ok(false);
+        return false;
     };
     for workers in [1, 2, 4, 64] {
         let Ok(Some(found)) = by(rt, alloc, &mut folder, workers) else {
-            return Ok(false);
+            return false;
         };
         if !are_same(&found, &due) {
-            return Ok(false);
+            return false;
         }
     }
     // Four intervals in each lane, and one in each lane of the inner team.
-    Ok(due.len() == 18)
+    due.len() == 18
 }
 
 #[test]
-fn lanes_read_together_give_the_same_segments(rt: HostRuntime) -> Result<(), Fail> {
+fn lanes_read_together_give_the_same_segments(rt: HostRuntime) {
     let long = Lane {
         writes: 45_000,
         ..PLAIN
     };
-    assert!(rt; give_the_same(&rt, rt.alloc(), &[PLAIN, forking(long), long, PLAIN])?);
-    Ok(())
+    assert!(rt; give_the_same(&rt, rt.alloc(), &[PLAIN, forking(long), long, PLAIN]));
 }
 
 // A lane that breaks a rule in its last record but one.
@@ -201,7 +201,7 @@ const LATE: Lane = Lane {
 };
 
 #[test]
-fn the_first_bad_place_is_told_by_each_number_of_workers(rt: HostRuntime) -> Result<(), Fail> {
+fn the_first_bad_place_is_told_by_each_number_of_workers(rt: HostRuntime) {
     let table = [
         (
             [PLAIN, forking(PLAIN), BROKEN, BROKEN],
@@ -221,10 +221,9 @@ fn the_first_bad_place_is_told_by_each_number_of_workers(rt: HostRuntime) -> Res
         ),
     ];
     for (lanes, due) in &table {
-        let mut folder = team(rt.alloc(), lanes)?;
+        let mut folder = team(&rt, rt.alloc(), lanes);
         assert!(rt; is_told(&rt, rt.alloc(), &mut folder, *due), "{lanes:?}");
     }
-    Ok(())
 }
 
 // A lane with a segment for each of its writes.
@@ -235,41 +234,39 @@ const MANY: Lane = Lane {
 };
 
 #[test]
-fn a_segment_too_many_beside_others_is_told(rt: HostRuntime) -> Result<(), Fail> {
+fn a_segment_too_many_beside_others_is_told(rt: HostRuntime) {
     // The lanes before the last have 17,001 segments, 17,000 and 17,001, and the inner ones two.
-    let mut folder = team(rt.alloc(), &[MANY, forking(MANY), MANY, MANY])?;
-    assert!(rt; told_by(&rt, rt.alloc(), &mut folder, 4) == Told::TooMany(4, 29_065));
-    Ok(())
+    let mut folder = team(&rt, rt.alloc(), &[MANY, forking(MANY), MANY, MANY]);
+    assert!(rt; told_of(by(&rt, rt.alloc(), &mut folder, 4)) == Told::TooMany(4, 29_065));
 }
 
 // The first call on the folder whose failure isn't told as a read that failed, by so many workers.
-fn first_untold<R: Threads + Sync>(
+fn first_untold<R: Abort + Threads + Sync>(
     rt: &R,
     alloc: Global,
     lanes: &[Lane; 4],
     workers: usize,
-) -> Result<u64, Memory>
+) -> u64
     requires { 1 ≤ workers }
 {
     for call in 1..100 {
-        let mut folder = team(alloc, lanes)?;
-        folder.fail(&[call])?;
-        if told_by(rt, alloc, &mut folder, workers) != Told::ReadFault {
-            return Ok(call);
+        let mut folder = team(rt, alloc, lanes);
+        folder.fail(&[call]).expect(rt, "memory");
+        if told_of(by(rt, alloc, &mut folder, workers)) != Told::ReadFault {
+            return call;
         }
     }
-    Ok(100)
+    100
 }
 
 #[test]
-fn a_read_that_fails_beside_others_is_told(rt: HostRuntime) -> Result<(), Fail> {
+fn a_read_that_fails_beside_others_is_told(rt: HostRuntime) {
     let long = Lane {
         writes: 45_000,
         ..PLAIN
     };
     // The size of the index and its nine reads; for the root, three lanes and the two inner ones a size and two reads, and for the
     // third lane, whose log takes two windows, one read more.
-    let calls = first_untold(&rt, rt.alloc(), &[PLAIN, forking(PLAIN), long, PLAIN], 4)?;
-    assert_eq!(rt; calls, 33);
-    Ok(())
+    let calls = first_untold(&rt, rt.alloc(), &[PLAIN, forking(PLAIN), long, PLAIN], 4);
+    assert!(rt; calls == 33, "{calls}");
 }

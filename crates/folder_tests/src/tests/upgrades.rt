@@ -6,6 +6,7 @@ use log_walk::{Segment, WalkFault, walk, walk_old};
 use memory_environment::MemFolder;
 use race_model::IndexWhy;
 use std::alloc::Global;
+use std::process::Abort;
 use std::test::Fail;
 use sw_base::{Folder, OLD_INDEX_HEADER, OLD_LOG_HEADER, index_name};
 
@@ -24,40 +25,39 @@ const FILES: &[&str] = &[
 ];
 
 // The same bytes under the header of the first format.
-fn old_bytes(alloc: Global, name: &str, bytes: &[u8]) -> Result<Vec<u8>, Fail> {
+fn old_bytes(rt: &impl Abort, alloc: Global, name: &str, bytes: &[u8]) -> Vec<u8> {
     let header = if name == "index.swi" {
         OLD_INDEX_HEADER
     } else {
         OLD_LOG_HEADER
     };
-    let rest = bytes.get(8..).ok_or("a header")?;
-    Ok([header.as_slice(), rest].concat(alloc)?)
+    let rest = bytes.get(8..).expect(rt, "a header");
+    [header.as_slice(), rest].concat(alloc).expect(rt, "memory")
 }
 
 // A generated run in the folder `n`, and the same by the first format in `d`.
-fn both(alloc: Global) -> Result<MemFolder, Fail> {
-    let mut folder = MemFolder::new(alloc)?;
-    if generate(alloc, &mut folder, "n", 3).is_err() {
-        return Err(Fail::new("no run"));
-    }
+fn both(rt: &impl Abort, alloc: Global) -> MemFolder {
+    let mut folder = MemFolder::new(alloc).expect(rt, "memory");
+    generate(alloc, &mut folder, "n", 3).expect(rt, "a run");
     for name in FILES {
-        let from = format!(in alloc; "n/{name}")?;
-        let bytes = old_bytes(alloc, name, folder.file(&from).ok_or("a file")?)?;
-        folder.hold(&format!(in alloc; "d/{name}")?, &bytes)?;
+        let from = format!(in alloc; "n/{name}").expect(rt, "memory");
+        let bytes = old_bytes(rt, alloc, name, folder.file(&from).expect(rt, "a file"));
+        let to = format!(in alloc; "d/{name}").expect(rt, "memory");
+        folder.hold(&to, &bytes).expect(rt, "memory");
     }
-    Ok(folder)
+    folder
 }
 
 // The first file that isn't the same in the folders `n` and `e`.
-fn first_other(alloc: Global, folder: &MemFolder) -> Result<Option<&'static str>, Fail> {
+fn first_other(rt: &impl Abort, alloc: Global, folder: &MemFolder) -> Option<&'static str> {
     for name in FILES {
-        let due = format!(in alloc; "n/{name}")?;
-        let made = format!(in alloc; "e/{name}")?;
+        let due = format!(in alloc; "n/{name}").expect(rt, "memory");
+        let made = format!(in alloc; "e/{name}").expect(rt, "memory");
         if folder.file(&due).is_none() || folder.file(&due) != folder.file(&made) {
-            return Ok(Some(*name));
+            return Some(*name);
         }
     }
-    Ok(None)
+    None
 }
 
 // Brings a folder over to another one, and how that failed, unless the other one has an index.
@@ -87,12 +87,12 @@ fn a_folder_that_was_brought_over_is_the_one_that_is_written_now(
     rt: HostRuntime,
 ) -> Result<(), Fail> {
     let alloc = rt.alloc();
-    let mut folder = both(alloc)?;
+    let mut folder = both(&rt, alloc);
     let old = segments_of(walk_old(alloc, &mut folder, "d"));
     let logs = brought(alloc, &mut folder, "d", "e").ok();
     let new = segments_of(walk(alloc, &mut folder, "e"));
     assert!(rt; (old, logs, new) == (Some(16), Some(9), Some(16)));
-    match first_other(alloc, &folder)? {
+    match first_other(&rt, alloc, &folder) {
         Some(name) => Err(Fail::from(name)),
         None => Ok(()),
     }
@@ -112,9 +112,9 @@ fn is_refused(answer: Result<u32, Option<UpgradeFault>>) -> bool {
 
 // A folder of the second format isn't one of the first.
 #[test]
-fn what_is_of_the_second_format_is_not_brought_over(rt: HostRuntime) -> Result<(), Fail> {
+fn what_is_of_the_second_format_is_not_brought_over(rt: HostRuntime) {
     let alloc = rt.alloc();
-    let mut folder = both(alloc)?;
+    let mut folder = both(&rt, alloc);
     let walked = walk_old(alloc, &mut folder, "n").err();
     let told = [
         walked.is_some_and(|fault| is_header(&fault)),
@@ -123,5 +123,4 @@ fn what_is_of_the_second_format_is_not_brought_over(rt: HostRuntime) -> Result<(
         folder.file("e/index.swi").is_none(),
     ];
     assert!(rt; told == [true; 4], "{told:?}");
-    Ok(())
 }

@@ -4,9 +4,10 @@ use log_walk::{RecordWhy, Segment, Sweep, WalkFault, walk};
 use memory_environment::{MemFolder, ShortReads};
 use race_model::IndexWhy;
 use span_label::Triple;
-use std::alloc::{AllocError, Global};
+use std::alloc::Global;
+use std::process::Abort;
 use std::test::Fail;
-use sw_base::{Folder, INDEX_HEADER, LOG_HEADER, Memory, Path};
+use sw_base::{Folder, INDEX_HEADER, LOG_HEADER, Path};
 
 // A record: kind, size, line, address and value.
 pub type Rec = (u8, u8, u8, u64, u8);
@@ -126,44 +127,58 @@ fn walked<F: Folder>(alloc: Global, folder: &mut F, dir: &str) -> Told {
     }
 }
 
-pub fn log_of(alloc: Global, records: &[Rec]) -> Result<Vec<u8>, AllocError> {
-    let mut log = Vec::from_slice(alloc, &LOG_HEADER)?;
+pub fn log_of(rt: &impl Abort, alloc: Global, records: &[Rec]) -> Vec<u8> {
+    let mut log = Vec::from_slice(alloc, &LOG_HEADER).expect(rt, "memory");
     for (kind, size, line, address, value) in records {
-        log.extend_from_slice(&[*kind, *size, 0, 0, 0, 0, 0, *line])?;
-        log.extend_from_slice(&address.to_be_bytes())?;
-        log.extend_from_slice(&[0, 0, 0, 0, 0, 0, 0, *value])?;
+        log.extend_from_slice(&[*kind, *size, 0, 0, 0, 0, 0, *line])
+            .expect(rt, "memory");
+        log.extend_from_slice(&address.to_be_bytes())
+            .expect(rt, "memory");
+        log.extend_from_slice(&[0, 0, 0, 0, 0, 0, 0, *value])
+            .expect(rt, "memory");
     }
-    Ok(log)
+    log
 }
 
-fn spell_row(index: &mut Vec<u8>, row: &Row<'_>) -> Result<(), AllocError> {
+// The four steps of a row, of which those past its depth are zeros.
+pub fn spell_row(rt: &impl Abort, index: &mut Vec<u8>, row: &Row<'_>) {
     let (steps, records) = row;
-    index.extend_from_slice(&[0, 0, 0, steps.len().min(4) as u8, 0, 0, 0, 0])?;
+    index
+        .extend_from_slice(&[0, 0, 0, steps.len().min(4) as u8, 0, 0, 0, 0])
+        .expect(rt, "memory");
     for at in 0..4 {
         let (region, lane, span) = *steps.get(at).unwrap_or(&(0, 0, 0));
-        index.extend_from_slice(&[0, 0, 0, region, 0, lane, 0, span])?;
+        index
+            .extend_from_slice(&[0, 0, 0, region, 0, lane, 0, span])
+            .expect(rt, "memory");
     }
-    index.extend_from_slice(&u64::from(*records).to_be_bytes())
+    index
+        .extend_from_slice(&u64::from(*records).to_be_bytes())
+        .expect(rt, "memory");
 }
 
-pub fn index_of(alloc: Global, rows: &[Row<'_>]) -> Result<Vec<u8>, AllocError> {
-    let mut index = Vec::from_slice(alloc, &INDEX_HEADER)?;
+pub fn index_of(rt: &impl Abort, alloc: Global, rows: &[Row<'_>]) -> Vec<u8> {
+    let mut index = Vec::from_slice(alloc, &INDEX_HEADER).expect(rt, "memory");
     for row in rows {
-        spell_row(&mut index, row)?;
+        spell_row(rt, &mut index, row);
     }
-    Ok(index)
+    index
 }
 
-pub fn folder_of(alloc: Global, files: &Files<'_>) -> Result<MemFolder, Memory> {
-    let mut folder = MemFolder::new(alloc)?;
-    folder.hold("d/index.swi", &index_of(alloc, files.rows)?)?;
+pub fn folder_of(rt: &impl Abort, alloc: Global, files: &Files<'_>) -> MemFolder {
+    let mut folder = MemFolder::new(alloc).expect(rt, "memory");
+    folder
+        .hold("d/index.swi", &index_of(rt, alloc, files.rows))
+        .expect(rt, "memory");
     for (name, records) in files.logs {
-        folder.hold(name, &log_of(alloc, records)?)?;
+        folder
+            .hold(name, &log_of(rt, alloc, records))
+            .expect(rt, "memory");
     }
     for (name, bytes) in files.others {
-        folder.hold(name, bytes)?;
+        folder.hold(name, bytes).expect(rt, "memory");
     }
-    Ok(folder)
+    folder
 }
 
 // Whether this is told of a folder, the same where no read gives more than five bytes.
@@ -173,21 +188,18 @@ fn is_told(alloc: Global, folder: MemFolder, due: Told) -> bool {
 }
 
 // Fails with the number, from 0, of the first of these folders of which something else is told.
-fn are_told(alloc: Global, table: &[(Files<'_>, Told)]) -> Result<(), Fail> {
+fn are_told(rt: &impl Abort, alloc: Global, table: &[(Files<'_>, Told)]) -> Result<(), Fail> {
     for (number, (files, due)) in table.iter().enumerate() {
-        if !is_told(alloc, folder_of(alloc, files)?, *due) {
+        if !is_told(alloc, folder_of(rt, alloc, files), *due) {
             return Err(Fail::from(number));
         }
     }
     Ok(())
 }
 
-fn segments_of(alloc: Global, files: &Files<'_>) -> Result<Vec<Segment>, Fail> {
-    let mut folder = folder_of(alloc, files)?;
-    match walk(alloc, &mut folder, "d") {
-        Ok(found) => Ok(found),
-        Err(_) => Err(Fail::new("refused")),
-    }
+fn segments_of(rt: &impl Abort, alloc: Global, files: &Files<'_>) -> Vec<Segment> {
+    let mut folder = folder_of(rt, alloc, files);
+    walk(alloc, &mut folder, "d").ok().expect(rt, "refused")
 }
 
 fn has_one_run_under_mutex_1(segment: &Segment) -> bool {
@@ -198,23 +210,20 @@ fn has_one_run_under_mutex_1(segment: &Segment) -> bool {
 }
 
 // Whether there are two segments, the second in lane 1 from its Lock to its Unlock.
-fn end_in_lane_1(alloc: Global, found: &[Segment]) -> Result<bool, Memory> {
+fn end_in_lane_1(rt: &impl Abort, alloc: Global, found: &[Segment]) -> bool {
     let [_, second] = found else {
-        return Ok(false);
+        return false;
     };
-    let name = second.path.bare_name(alloc)?;
-    Ok(
-        name.as_str() == "t-0.1.swl"
-            && (second.first, second.last) == (1, 3)
-            && has_one_run_under_mutex_1(second),
-    )
+    let name = second.path.bare_name(alloc).expect(rt, "memory");
+    name.as_str() == "t-0.1.swl"
+        && (second.first, second.last) == (1, 3)
+        && has_one_run_under_mutex_1(second)
 }
 
 #[test]
-fn a_good_folder_is_read_and_walked(rt: HostRuntime) -> Result<(), Fail> {
-    let found = segments_of(rt.alloc(), &GOOD)?;
-    assert!(rt; end_in_lane_1(rt.alloc(), &found)?);
-    Ok(())
+fn a_good_folder_is_read_and_walked(rt: HostRuntime) {
+    let found = segments_of(&rt, rt.alloc(), &GOOD);
+    assert!(rt; end_in_lane_1(&rt, rt.alloc(), &found));
 }
 
 // Whether the segment has one run, which writes, and is atomic or not.
@@ -229,7 +238,7 @@ fn writes(segment: &Segment, atomic: bool) -> bool {
 fn an_update_is_a_write_that_is_atomic(rt: HostRuntime) -> Result<(), Fail> {
     let updates: &[Rec] = &[LOCK, update!(4096), UNLOCK, BARRIER, END];
     let files = three!(rows!(2, 5, 5), ROOT, updates, LANE_1);
-    let found = segments_of(rt.alloc(), &files)?;
+    let found = segments_of(&rt, rt.alloc(), &files);
     let [first, second] = found.as_slice() else {
         return Err(Fail::new("two segments"));
     };
@@ -277,10 +286,9 @@ fn end_in_two_lanes(found: &[Segment]) -> bool {
 }
 
 #[test]
-fn segments_have_the_labels_of_their_tasks(rt: HostRuntime) -> Result<(), Fail> {
-    let found = segments_of(rt.alloc(), &NESTED)?;
+fn segments_have_the_labels_of_their_tasks(rt: HostRuntime) {
+    let found = segments_of(&rt, rt.alloc(), &NESTED);
     assert!(rt; end_in_two_lanes(&found));
-    Ok(())
 }
 
 // Lane 0 stores before and after a draw, and lane 1 does nothing.
@@ -294,7 +302,7 @@ const DRAWN: Files<'static> = three!(
 // A segment goes from barrier to barrier, here from the log's first record to its End.
 #[test]
 fn a_chunk_parts_no_segment(rt: HostRuntime) -> Result<(), Fail> {
-    let found = segments_of(rt.alloc(), &DRAWN)?;
+    let found = segments_of(&rt, rt.alloc(), &DRAWN);
     let [only] = found.as_slice() else {
         return Err(Fail::new("one segment"));
     };
@@ -391,7 +399,7 @@ const BROKEN: &[(Files<'static>, Told)] = &[
 
 #[test]
 fn one_record_that_breaks_a_rule_is_told(rt: HostRuntime) -> Result<(), Fail> {
-    are_told(rt.alloc(), BROKEN)
+    are_told(&rt, rt.alloc(), BROKEN)
 }
 
 // The lock of this mutex.
@@ -431,7 +439,7 @@ const COUNTED: &[(Files<'static>, Told)] = &[
 
 #[test]
 fn open_and_deep_locks_and_wrong_counts_are_told(rt: HostRuntime) -> Result<(), Fail> {
-    are_told(rt.alloc(), COUNTED)
+    are_told(&rt, rt.alloc(), COUNTED)
 }
 
 const TWICE_BROKEN: &[(Files<'static>, Told)] = &[
@@ -477,7 +485,7 @@ const TWICE_BROKEN: &[(Files<'static>, Told)] = &[
 
 #[test]
 fn of_two_broken_rules_the_first_is_told(rt: HostRuntime) -> Result<(), Fail> {
-    are_told(rt.alloc(), TWICE_BROKEN)
+    are_told(&rt, rt.alloc(), TWICE_BROKEN)
 }
 
 // A row below lane 1, which forks no region, and barriers that lane 0 passes alone.
@@ -507,7 +515,7 @@ const TOO_FEW_BARRIERS: &[(Files<'static>, Told)] = &[
 
 #[test]
 fn a_region_that_is_not_forked_comes_before_too_few_barriers(rt: HostRuntime) -> Result<(), Fail> {
-    are_told(rt.alloc(), TOO_FEW_BARRIERS)
+    are_told(&rt, rt.alloc(), TOO_FEW_BARRIERS)
 }
 
 // The root's records, and what is told of it.
@@ -549,7 +557,7 @@ const IN_ORDER: &[(Files<'static>, Told)] = &[
 
 #[test]
 fn the_first_log_in_row_order_is_told(rt: HostRuntime) -> Result<(), Fail> {
-    are_told(rt.alloc(), IN_ORDER)
+    are_told(&rt, rt.alloc(), IN_ORDER)
 }
 
 // A lane of a team of none, and a root whose first record has no kind.
@@ -567,12 +575,6 @@ const OLD_INDEX: Files<'static> = Files {
     others: &[("d/index.swi", b"SWIDX001")],
 };
 
-// What is told of a folder that isn't there, beside the bad one.
-fn told_of_none(alloc: Global) -> Result<Told, Memory> {
-    let mut folder = folder_of(alloc, &BAD_INDEX)?;
-    Ok(walked(alloc, &mut folder, "e"))
-}
-
 const INDEXES: &[(Files<'static>, Told)] = &[
     (BAD_INDEX, Told::Row(3, IndexWhy::Span)),
     (OLD_INDEX, Told::Row(0, IndexWhy::Old)),
@@ -580,8 +582,10 @@ const INDEXES: &[(Files<'static>, Told)] = &[
 
 #[test]
 fn the_index_comes_before_the_logs(rt: HostRuntime) -> Result<(), Fail> {
-    assert!(rt; told_of_none(rt.alloc())? == Told::NoIndex);
-    are_told(rt.alloc(), INDEXES)
+    // The folder `e` isn't there, beside the bad one.
+    let mut folder = folder_of(&rt, rt.alloc(), &BAD_INDEX);
+    assert!(rt; walked(rt.alloc(), &mut folder, "e") == Told::NoIndex);
+    are_told(&rt, rt.alloc(), INDEXES)
 }
 
 // A row may claim any number of records: what is read is what is there.
@@ -594,26 +598,26 @@ const CLAIMED: &[(Files<'static>, Told)] = &[lane_1!(
 
 #[test]
 fn a_row_that_claims_too_many_records_is_told(rt: HostRuntime) -> Result<(), Fail> {
-    are_told(rt.alloc(), CLAIMED)
+    are_told(&rt, rt.alloc(), CLAIMED)
 }
 
 // Lane 1's log up to a byte, these bytes, and the log from another byte on.
 type Splice<'a> = (usize, &'a [u8], usize);
 
-fn spliced(alloc: Global, splice: &Splice<'_>) -> Result<Vec<u8>, Fail> {
+fn spliced(rt: &impl Abort, alloc: Global, splice: &Splice<'_>) -> Vec<u8> {
     let (from, bytes, to) = splice;
-    let whole = log_of(alloc, LANE_1)?;
-    let before = whole.get(..*from).ok_or("bytes before")?;
-    let behind = whole.get(*to..).ok_or("bytes behind")?;
-    Ok([before, bytes, behind].concat(alloc)?)
+    let whole = log_of(rt, alloc, LANE_1);
+    let before = whole.get(..*from).expect(rt, "bytes before");
+    let behind = whole.get(*to..).expect(rt, "bytes behind");
+    [before, bytes, behind].concat(alloc).expect(rt, "memory")
 }
 
 // Whether this is told of the good folder with such a log.
-fn is_told_of(alloc: Global, splice: &Splice<'_>, due: Told) -> Result<bool, Fail> {
-    let bytes = spliced(alloc, splice)?;
-    let mut folder = folder_of(alloc, &GOOD)?;
-    folder.hold("d/t-0.1.swl", &bytes)?;
-    Ok(is_told(alloc, folder, due))
+fn is_told_of(rt: &impl Abort, alloc: Global, splice: &Splice<'_>, due: Told) -> bool {
+    let bytes = spliced(rt, alloc, splice);
+    let mut folder = folder_of(rt, alloc, &GOOD);
+    folder.hold("d/t-0.1.swl", &bytes).expect(rt, "memory");
+    is_told(alloc, folder, due)
 }
 
 const SPLICED: &[(Splice<'static>, Told)] = &[
@@ -627,15 +631,17 @@ const SPLICED: &[(Splice<'static>, Told)] = &[
 ];
 
 #[test]
-fn bytes_that_change_or_are_left_out_or_added_are_told(rt: HostRuntime) -> Result<(), Fail> {
+fn bytes_that_change_or_are_left_out_or_added_are_told(rt: HostRuntime) {
     for (number, (splice, due)) in SPLICED.iter().enumerate() {
-        assert!(rt; is_told_of(rt.alloc(), splice, *due)?, "splice {number}");
+        assert!(rt;
+            is_told_of(&rt, rt.alloc(), splice, *due),
+            "splice {number}"
+        );
     }
-    Ok(())
 }
 
 // What is told of a lane with so many segments, of writes and of updates in turn.
-fn told_of_segments(alloc: Global, count: u32, row: u32) -> Result<Told, Memory> {
+fn told_of_segments(rt: &impl Abort, alloc: Global, count: u32, row: u32) -> Told {
     let mut records = Vec::new(alloc);
     for number in 0..count {
         let access: Rec = if number % 2 == 0 {
@@ -643,9 +649,11 @@ fn told_of_segments(alloc: Global, count: u32, row: u32) -> Result<Told, Memory>
         } else {
             update!(4096)
         };
-        records.extend_from_slice(&[access, BARRIER])?;
+        records
+            .extend_from_slice(&[access, BARRIER])
+            .expect(rt, "memory");
     }
-    records.push(END)?;
+    records.push(END).expect(rt, "memory");
     let files = Files {
         rows: &[(&[], 2), (&[(0, 0, 1)], row)],
         logs: &[
@@ -654,40 +662,32 @@ fn told_of_segments(alloc: Global, count: u32, row: u32) -> Result<Told, Memory>
         ],
         others: &[],
     };
-    let mut folder = folder_of(alloc, &files)?;
-    Ok(walked(alloc, &mut folder, "d"))
+    let mut folder = folder_of(rt, alloc, &files);
+    walked(alloc, &mut folder, "d")
 }
 
 #[test]
-fn the_65537th_segment_is_one_too_many(rt: HostRuntime) -> Result<(), Fail> {
-    let answer = told_of_segments(rt.alloc(), 65_537, 131_075)?;
+fn the_65537th_segment_is_one_too_many(rt: HostRuntime) {
+    let answer = told_of_segments(&rt, rt.alloc(), 65_537, 131_075);
     assert!(rt; answer == Told::TooMany(1, 131_073));
-    Ok(())
 }
 
 // The row ends the log at the access that opens the 65,537th segment, which is no End.
 #[test]
-fn a_segment_too_many_comes_after_the_rules_of_its_record(rt: HostRuntime) -> Result<(), Fail> {
-    let answer = told_of_segments(rt.alloc(), 65_537, 131_073)?;
+fn a_segment_too_many_comes_after_the_rules_of_its_record(rt: HostRuntime) {
+    let answer = told_of_segments(&rt, rt.alloc(), 65_537, 131_073);
     assert!(rt; answer == Told::Record(1, 131_073, RecordWhy::EndMissing));
-    Ok(())
 }
 
 // The folder of these files, where this call on it fails.
-fn failing_at(alloc: Global, files: &Files<'_>, call: u64) -> Result<MemFolder, Memory> {
-    let mut folder = folder_of(alloc, files)?;
-    folder.fail(&[call])?;
-    Ok(folder)
-}
-
-// What is told of the good folder where this call on it fails.
-fn told_failing(alloc: Global, call: u64) -> Result<Told, Memory> {
-    let mut folder = failing_at(alloc, &GOOD, call)?;
-    Ok(walked(alloc, &mut folder, "d"))
+fn failing_at(rt: &impl Abort, alloc: Global, files: &Files<'_>, call: u64) -> MemFolder {
+    let mut folder = folder_of(rt, alloc, files);
+    folder.fail(&[call]).expect(rt, "memory");
+    folder
 }
 
 #[test]
-fn each_read_that_fails_is_told(rt: HostRuntime) -> Result<(), Fail> {
+fn each_read_that_fails_is_told(rt: HostRuntime) {
     // The size of the index and its five reads, and for each of three logs its size and two reads.
     for call in 1..17 {
         let due = if call < 16 {
@@ -695,9 +695,12 @@ fn each_read_that_fails_is_told(rt: HostRuntime) -> Result<(), Fail> {
         } else {
             Told::Good
         };
-        assert!(rt; told_failing(rt.alloc(), call)? == due, "at call {call}");
+        let mut folder = failing_at(&rt, rt.alloc(), &GOOD, call);
+        assert!(rt;
+            walked(rt.alloc(), &mut folder, "d") == due,
+            "at call {call}"
+        );
     }
-    Ok(())
 }
 
 // A root that forks two regions of one lane each, each with an access.
@@ -725,14 +728,8 @@ fn regions_given<F: Folder>(alloc: Global, folder: &mut F, dir: &str) -> u32 {
     2
 }
 
-// The same of the folder of two regions where this call on it fails.
-fn given_failing(alloc: Global, call: u64) -> Result<u32, Memory> {
-    let mut folder = failing_at(alloc, &TWO_REGIONS, call)?;
-    Ok(regions_given(alloc, &mut folder, "d"))
-}
-
 #[test]
-fn a_region_is_given_before_the_next_is_read(rt: HostRuntime) -> Result<(), Fail> {
+fn a_region_is_given_before_the_next_is_read(rt: HostRuntime) {
     // The size of the index and its five reads, and for each of three logs its size and two reads.
     for call in 1..17 {
         let given = if call <= 12 {
@@ -742,7 +739,10 @@ fn a_region_is_given_before_the_next_is_read(rt: HostRuntime) -> Result<(), Fail
         } else {
             2
         };
-        assert!(rt; given_failing(rt.alloc(), call)? == given, "at call {call}");
+        let mut folder = failing_at(&rt, rt.alloc(), &TWO_REGIONS, call);
+        assert!(rt;
+            regions_given(rt.alloc(), &mut folder, "d") == given,
+            "at call {call}"
+        );
     }
-    Ok(())
 }

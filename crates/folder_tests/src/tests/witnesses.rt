@@ -1,17 +1,15 @@
 //! Two records that race, and those that don't: confirmed without labels.
 
+use super::walks::{Rec, Step, log_of, spell_row};
 use explain::{RacePair, confirm, explain};
 use log_walk::{RecordWhy, WalkFault};
 use memory_environment::{MemFolder, ShortReads};
-use std::alloc::{AllocError, Global};
-use std::test::Fail;
-use sw_base::{Folder, INDEX_HEADER, LOG_HEADER, Memory};
+use std::alloc::Global;
+use std::process::Abort;
+use sw_base::{Folder, INDEX_HEADER};
 
-// A record: kind, size, line, address and value.
-type Rec = (u8, u8, u8, u64, u8);
-
-// A task: the name of its log, the steps of its path with region, lane and span, and its records.
-type Task<'a> = (&'a str, &'a [[u8; 3]], &'a [Rec]);
+// A task: the name of its log, the steps of its path, and its records.
+type Task<'a> = (&'a str, &'a [Step], &'a [Rec]);
 
 // A row and a record's number there.
 type Name = (u32, u32);
@@ -60,8 +58,8 @@ macro_rules! two {
     ($first:expr, $second:expr) => {
         &[
             ("d/t.swl", &[], &[FORK, END]),
-            ("d/t-0.0.swl", &[[0, 0, 2]], $first),
-            ("d/t-0.1.swl", &[[0, 1, 2]], $second),
+            ("d/t-0.0.swl", &[(0, 0, 2)], $first),
+            ("d/t-0.1.swl", &[(0, 1, 2)], $second),
         ]
     };
 }
@@ -131,22 +129,22 @@ const NESTED: &[Task<'static>] = &[
     ("d/t.swl", &[], &[FORK, END]),
     (
         "d/t-0.0.swl",
-        &[[0, 0, 2]],
+        &[(0, 0, 2)],
         &[FORK, BARRIER, store!(4104), END],
     ),
     (
         "d/t-0.0-0.0.swl",
-        &[[0, 0, 2], [0, 0, 2]],
+        &[(0, 0, 2), (0, 0, 2)],
         &[BARRIER, store!(4096), END],
     ),
     (
         "d/t-0.0-0.1.swl",
-        &[[0, 0, 2], [0, 1, 2]],
+        &[(0, 0, 2), (0, 1, 2)],
         &[store!(4096), BARRIER, store!(4104), END],
     ),
     (
         "d/t-0.1.swl",
-        &[[0, 1, 2]],
+        &[(0, 1, 2)],
         &[store!(4104), BARRIER, store!(4104), END],
     ),
 ];
@@ -163,10 +161,10 @@ const NESTED_CASES: &[Case] = &[
 // Two regions of the root, one after the other.
 const JOINED: &[Task<'static>] = &[
     ("d/t.swl", &[], &[FORK, FORK, END]),
-    ("d/t-0.0.swl", &[[0, 0, 2]], &[store!(4096), END]),
-    ("d/t-0.1.swl", &[[0, 1, 2]], &[store!(4096), END]),
-    ("d/t-1.0.swl", &[[1, 0, 2]], &[store!(4096), END]),
-    ("d/t-1.1.swl", &[[1, 1, 2]], &[store!(4104), END]),
+    ("d/t-0.0.swl", &[(0, 0, 2)], &[store!(4096), END]),
+    ("d/t-0.1.swl", &[(0, 1, 2)], &[store!(4096), END]),
+    ("d/t-1.0.swl", &[(1, 0, 2)], &[store!(4096), END]),
+    ("d/t-1.1.swl", &[(1, 1, 2)], &[store!(4104), END]),
 ];
 
 const JOINED_CASES: &[Case] = &[
@@ -218,40 +216,18 @@ const TABLE: &[(&[Task<'static>], &[Case])] = &[
     (HELD, HELD_CASES),
 ];
 
-fn push_record(log: &mut Vec<u8>, record: &Rec) -> Result<(), AllocError> {
-    let (kind, size, line, address, value) = *record;
-    log.extend_from_slice(&[kind, size, 0, 0, 0, 0, 0, line])?;
-    log.extend_from_slice(&address.to_be_bytes())?;
-    log.extend_from_slice(&[0, 0, 0, 0, 0, 0, 0, value])
-}
-
-fn log_bytes(alloc: Global, records: &[Rec]) -> Result<Vec<u8>, AllocError> {
-    let mut log = Vec::from_slice(alloc, &LOG_HEADER)?;
-    for record in records {
-        push_record(&mut log, record)?;
-    }
-    Ok(log)
-}
-
-// The four steps of a row, of which those past its depth are zeros.
-fn push_row(index: &mut Vec<u8>, steps: &[[u8; 3]], records: usize) -> Result<(), AllocError> {
-    index.extend_from_slice(&[0, 0, 0, steps.len().min(4) as u8, 0, 0, 0, 0])?;
-    for place in 0..4 {
-        let [region, lane, span] = *steps.get(place).unwrap_or(&[0, 0, 0]);
-        index.extend_from_slice(&[0, 0, 0, region, 0, lane, 0, span])?;
-    }
-    index.extend_from_slice(&(records as u64).to_be_bytes())
-}
-
-fn folder_of(alloc: Global, tasks: &[Task<'_>]) -> Result<MemFolder, Memory> {
-    let mut folder = MemFolder::new(alloc)?;
-    let mut index = Vec::from_slice(alloc, &INDEX_HEADER)?;
+fn folder_of(rt: &impl Abort, alloc: Global, tasks: &[Task<'_>]) -> MemFolder {
+    let mut folder = MemFolder::new(alloc).expect(rt, "memory");
+    let mut index = Vec::from_slice(alloc, &INDEX_HEADER).expect(rt, "memory");
     for (name, steps, records) in tasks {
-        push_row(&mut index, steps, records.len())?;
-        folder.hold(name, &log_bytes(alloc, records)?)?;
+        let count = records.len().min(u32::MAX as usize) as u32;
+        spell_row(rt, &mut index, &(*steps, count));
+        folder
+            .hold(name, &log_of(rt, alloc, records))
+            .expect(rt, "memory");
     }
-    folder.hold("d/index.swi", &index)?;
-    Ok(folder)
+    folder.hold("d/index.swi", &index).expect(rt, "memory");
+    folder
 }
 
 fn is_so<F: Folder>(alloc: Global, folder: &mut F, case: &Case) -> bool {
@@ -277,19 +253,19 @@ fn others(alloc: Global, folder: MemFolder, cases: &[Case]) -> usize {
 }
 
 // The first folder in which a case is otherwise, by its number from 0.
-fn first_other(alloc: Global) -> Result<Option<usize>, Memory> {
+fn first_other(rt: &impl Abort, alloc: Global) -> Option<usize> {
     for (number, (tasks, cases)) in TABLE.iter().enumerate() {
-        if others(alloc, folder_of(alloc, tasks)?, cases) > 0 {
-            return Ok(Some(number));
+        if others(alloc, folder_of(rt, alloc, tasks), cases) > 0 {
+            return Some(number);
         }
     }
-    Ok(None)
+    None
 }
 
 #[test]
-fn records_that_race_are_confirmed(rt: HostRuntime) -> Result<(), Fail> {
-    assert_eq!(rt; first_other(rt.alloc())?, None);
-    Ok(())
+fn records_that_race_are_confirmed(rt: HostRuntime) {
+    let other = first_other(&rt, rt.alloc());
+    assert!(rt; other.is_none(), "{other:?}");
 }
 
 // What the call answers that names two records that race.
@@ -323,16 +299,15 @@ fn answer_of<F: Folder>(alloc: Global, folder: &mut F) -> Told {
 const UNEVEN: &[Task<'static>] = two!(&[BARRIER, END], &[END]);
 
 #[test]
-fn a_bad_folder_is_refused(rt: HostRuntime) -> Result<(), Fail> {
-    let mut uneven = folder_of(rt.alloc(), UNEVEN)?;
+fn a_bad_folder_is_refused(rt: HostRuntime) {
+    let mut uneven = folder_of(&rt, rt.alloc(), UNEVEN);
     assert!(rt; answer_of(rt.alloc(), &mut uneven) == Told::Uneven(1));
-    let mut empty = MemFolder::new(rt.alloc())?;
+    let mut empty = MemFolder::new(rt.alloc()).expect(&rt, "memory");
     assert!(rt; answer_of(rt.alloc(), &mut empty) == Told::NoIndex);
-    Ok(())
 }
 
 #[test]
-fn each_failing_read_is_told(rt: HostRuntime) -> Result<(), Fail> {
+fn each_failing_read_is_told(rt: HostRuntime) {
     // Fifteen calls of the sweep, and one for each of the two logs that are read again.
     for call in 1..19 {
         let due = if call < 18 {
@@ -340,39 +315,39 @@ fn each_failing_read_is_told(rt: HostRuntime) -> Result<(), Fail> {
         } else {
             Told::Race
         };
-        let mut folder = folder_of(rt.alloc(), SHIFTED)?;
-        folder.fail(&[call])?;
+        let mut folder = folder_of(&rt, rt.alloc(), SHIFTED);
+        folder.fail(&[call]).expect(&rt, "memory");
         assert!(rt; answer_of(rt.alloc(), &mut folder) == due, "at call {call}");
     }
-    Ok(())
 }
 
 // More records than are read at once.
 const MANY: usize = 3_000;
 
-fn many_loads(alloc: Global) -> Result<Vec<Rec>, Memory> {
+fn many_loads(rt: &impl Abort, alloc: Global) -> Vec<Rec> {
     let mut records: Vec<Rec> = Vec::new(alloc);
-    records.resize(MANY, load!(8192))?;
-    records.push(store!(4096))?;
-    records.push(END)?;
-    Ok(records)
+    records.resize(MANY, load!(8192)).expect(rt, "memory");
+    records
+        .extend_from_slice(&[store!(4096), END])
+        .expect(rt, "memory");
+    records
 }
 
 // What is answered where this call fails and the record that races is behind many others.
-fn late_answer(alloc: Global, call: u64) -> Result<Told, Memory> {
-    let first = many_loads(alloc)?;
+fn late_answer(rt: &impl Abort, alloc: Global, call: u64) -> Told {
+    let first = many_loads(rt, alloc);
     let tasks: &[Task<'_>] = two!(first.as_slice(), &[store!(4096), END]);
-    let mut folder = folder_of(alloc, tasks)?;
-    folder.fail(&[call])?;
-    Ok(match confirm(alloc, &mut folder, "d", 2, 3_001, 3, 1) {
+    let mut folder = folder_of(rt, alloc, tasks);
+    folder.fail(&[call]).expect(rt, "memory");
+    match confirm(alloc, &mut folder, "d", 2, 3_001, 3, 1) {
         Ok(Some(_)) => Told::Race,
         Err(WalkFault::ReadFault) => Told::ReadFault,
         _ => Told::Other,
-    })
+    }
 }
 
 #[test]
-fn each_failing_read_of_a_long_log_is_told(rt: HostRuntime) -> Result<(), Fail> {
+fn each_failing_read_of_a_long_log_is_told(rt: HostRuntime) {
     // One call more of the sweep than for short logs, and one more where the long log is read again.
     for call in 1..21 {
         let due = if call < 20 {
@@ -380,9 +355,8 @@ fn each_failing_read_of_a_long_log_is_told(rt: HostRuntime) -> Result<(), Fail> 
         } else {
             Told::Race
         };
-        assert!(rt; late_answer(rt.alloc(), call)? == due, "at call {call}");
+        assert!(rt; late_answer(&rt, rt.alloc(), call) == due, "at call {call}");
     }
-    Ok(())
 }
 
 // Two lines, and their least race.
@@ -465,17 +439,17 @@ fn other_races(alloc: Global, folder: MemFolder, cases: &[Least]) -> usize {
 }
 
 // The first folder in which a race is otherwise, by its number from 0.
-fn first_other_race(alloc: Global) -> Result<Option<usize>, Memory> {
+fn first_other_race(rt: &impl Abort, alloc: Global) -> Option<usize> {
     for (number, (tasks, cases)) in LEAST.iter().enumerate() {
-        if other_races(alloc, folder_of(alloc, tasks)?, cases) > 0 {
-            return Ok(Some(number));
+        if other_races(alloc, folder_of(rt, alloc, tasks), cases) > 0 {
+            return Some(number);
         }
     }
-    Ok(None)
+    None
 }
 
 #[test]
-fn the_least_race_is_found_and_confirmed(rt: HostRuntime) -> Result<(), Fail> {
-    assert_eq!(rt; first_other_race(rt.alloc())?, None);
-    Ok(())
+fn the_least_race_is_found_and_confirmed(rt: HostRuntime) {
+    let other = first_other_race(&rt, rt.alloc());
+    assert!(rt; other.is_none(), "{other:?}");
 }
