@@ -7,10 +7,11 @@ use command_answer::{DONE, RACES};
 use memory_environment::MemFolder;
 use std::alloc::Global;
 use std::marker::Send;
+use std::process::Abort;
 use std::sync::Wait;
 use std::test::Fail;
 use std::thread::Threads;
-use sw_base::{Memory, Path};
+use sw_base::Path;
 
 /// The words, and the status and the text that answer them. A text with dots at its end stands for all that begin so.
 pub type Question<'a> = (&'a [&'a str], u8, &'a str);
@@ -45,18 +46,18 @@ pub const EMPTY: Case<'static> = Case {
 };
 
 /// The folder of a case before anything is asked.
-pub fn folder_of(alloc: Global, case: &Case<'_>) -> Result<MemFolder, Memory> {
-    let mut folder = MemFolder::new(alloc)?;
+pub fn folder_of(rt: &impl Abort, alloc: Global, case: &Case<'_>) -> MemFolder {
+    let mut folder = MemFolder::new(alloc).expect(rt, "memory");
     if !case.tasks.is_empty() {
-        hold_tasks(alloc, &mut folder, case.tasks)?;
+        hold_tasks(rt, alloc, &mut folder, case.tasks);
     }
     if !case.old_tasks.is_empty() {
-        hold_old_tasks(alloc, &mut folder, case.old_tasks)?;
+        hold_old_tasks(rt, alloc, &mut folder, case.old_tasks);
     }
     for (name, text) in case.held {
-        folder.hold(name, text.as_bytes())?;
+        folder.hold(name, text.as_bytes()).expect(rt, "memory");
     }
-    Ok(folder)
+    folder
 }
 
 fn is_due(text: &[u8], due: &[u8]) -> bool {
@@ -67,7 +68,7 @@ fn is_due(text: &[u8], due: &[u8]) -> bool {
 }
 
 // The status and the text that come out, where they aren't these.
-fn other_answer<R: Threads + Wait + Sync + Copy + Send + 'static>(
+fn other_answer<R: Abort + Threads + Wait + Sync + Copy + Send + 'static>(
     rt: &R,
     alloc: Global,
     folder: &mut MemFolder,
@@ -75,40 +76,42 @@ fn other_answer<R: Threads + Wait + Sync + Copy + Send + 'static>(
     given: &[&str],
     status: u8,
     due: &str,
-) -> Result<Option<String>, Memory> {
-    let (answered, out) = printed(rt, alloc, folder, given, failing)?;
+) -> Option<String> {
+    let (answered, out) = printed(rt, alloc, folder, given, failing);
     if answered == status && is_due(out.written(), due.as_bytes()) {
-        return Ok(None);
+        return None;
     }
-    let text = String::from_utf8_lossy(alloc, out.written())?;
-    Ok(Some(format!(in alloc; "status {answered}: {text}")?))
+    let text = String::from_utf8_lossy(alloc, out.written()).expect(rt, "memory");
+    Some(format!(in alloc; "status {answered}: {text}").expect(rt, "memory"))
 }
 
 // The words, with `live` in place of `run`, where the threads of teams are to stay.
-fn worded<'a>(alloc: Global, given: &[&'a str], stays: bool) -> Result<Vec<&'a str>, Memory> {
+fn worded<'a>(rt: &impl Abort, alloc: Global, given: &[&'a str], stays: bool) -> Vec<&'a str> {
     let mut words = Vec::new(alloc);
     for word in given {
         let is_run = stays && words.is_empty() && *word == "run";
-        words.push(if is_run { "live" } else { *word })?;
+        words
+            .push(if is_run { "live" } else { *word })
+            .expect(rt, "memory");
     }
-    Ok(words)
+    words
 }
 
 // The first answer that isn't what is due, by the number of its question from 0.
-fn first_other_answer<R: Threads + Wait + Sync + Copy + Send + 'static>(
+fn first_other_answer<R: Abort + Threads + Wait + Sync + Copy + Send + 'static>(
     rt: &R,
     alloc: Global,
     folder: &mut MemFolder,
     case: &Case<'_>,
     stays: bool,
-) -> Result<Option<String>, Memory> {
+) -> Option<String> {
     for (number, (given, status, text)) in case.asked.iter().enumerate() {
-        let words = worded(alloc, given, stays)?;
-        if let Some(other) = other_answer(rt, alloc, folder, case.failing, &words, *status, text)? {
-            return Ok(Some(format!(in alloc; "question {number}: {other}")?));
+        let words = worded(rt, alloc, given, stays);
+        if let Some(other) = other_answer(rt, alloc, folder, case.failing, &words, *status, text) {
+            return Some(format!(in alloc; "question {number}: {other}").expect(rt, "memory"));
         }
     }
-    Ok(None)
+    None
 }
 
 // The first file that is left otherwise than is due.
@@ -137,23 +140,23 @@ fn are_sealed(folder: &MemFolder, names: &[&str]) -> bool {
 }
 
 // What comes out otherwise than the case says, asked over this folder.
-fn difference<R: Threads + Wait + Sync + Copy + Send + 'static>(
+fn difference<R: Abort + Threads + Wait + Sync + Copy + Send + 'static>(
     rt: &R,
     alloc: Global,
     folder: &mut MemFolder,
     case: &Case<'_>,
     stays: bool,
-) -> Result<Option<String>, Memory> {
-    if let Some(other) = first_other_answer(rt, alloc, folder, case, stays)? {
-        return Ok(Some(other));
+) -> Option<String> {
+    if let Some(other) = first_other_answer(rt, alloc, folder, case, stays) {
+        return Some(other);
     }
     if let Some(name) = other_file(folder, case.left) {
-        return Ok(Some(format!(in alloc; "what is left of {name}")?));
+        return Some(format!(in alloc; "what is left of {name}").expect(rt, "memory"));
     }
     if !are_sealed(folder, case.sealed) {
-        return Ok(Some(String::from_str(alloc, "the logs that were sealed")?));
+        return Some(String::from_str(alloc, "the logs that were sealed").expect(rt, "memory"));
     }
-    Ok(None)
+    None
 }
 
 // Whether the records behind each whole report that `check` printed are found.
@@ -171,47 +174,50 @@ fn are_all_witnessed(alloc: Global, folder: &mut MemFolder, asked: &[Question<'_
 }
 
 // The same of a case in a folder of its own, whose output doesn't fail.
-fn other_case<R: Threads + Wait + Sync + Copy + Send + 'static>(
+fn other_case<R: Abort + Threads + Wait + Sync + Copy + Send + 'static>(
     rt: &R,
     alloc: Global,
     case: &Case<'_>,
     stays: bool,
-) -> Result<Option<String>, Memory> {
-    let mut folder = folder_of(alloc, case)?;
-    let other = difference(rt, alloc, &mut folder, case, stays)?;
+) -> Option<String> {
+    let mut folder = folder_of(rt, alloc, case);
+    let other = difference(rt, alloc, &mut folder, case, stays);
     if other.is_some() || !case.failing.is_empty() {
-        return Ok(other);
+        return other;
     }
     if are_all_witnessed(alloc, &mut folder, case.asked) {
-        return Ok(None);
+        return None;
     }
-    Ok(Some(String::from_str(alloc, "the records behind a report")?))
+    Some(String::from_str(alloc, "the records behind a report").expect(rt, "memory"))
 }
 
 // Whether the case asks for a run.
 fn asks_run(case: &Case<'_>) -> bool {
-    case.asked
-        .iter()
-        .any(|(given, _, _)| given.first() == Some(&"run"))
+    for (given, _, _) in case.asked {
+        if given.first() == Some(&"run") {
+            return true;
+        }
+    }
+    false
 }
 
 // The first case, by its number from 0, and what comes out otherwise of it, by `run` or by `live`.
-fn first_difference<R: Threads + Wait + Sync + Copy + Send + 'static>(
+fn first_difference<R: Abort + Threads + Wait + Sync + Copy + Send + 'static>(
     rt: &R,
     alloc: Global,
     cases: &[Case<'_>],
-) -> Result<Option<String>, Memory> {
+) -> Option<String> {
     for (number, case) in cases.iter().enumerate() {
-        if let Some(other) = other_case(rt, alloc, case, false)? {
-            return Ok(Some(format!(in alloc; "case {number}: {other}")?));
+        if let Some(other) = other_case(rt, alloc, case, false) {
+            return Some(format!(in alloc; "case {number}: {other}").expect(rt, "memory"));
         }
         if asks_run(case)
-            && let Some(other) = other_case(rt, alloc, case, true)?
+            && let Some(other) = other_case(rt, alloc, case, true)
         {
-            return Ok(Some(format!(in alloc; "case {number} by live: {other}")?));
+            return Some(format!(in alloc; "case {number} by live: {other}").expect(rt, "memory"));
         }
     }
-    Ok(None)
+    None
 }
 
 /// Fails with the name of a row that doesn't hold.
@@ -223,16 +229,15 @@ pub fn holds(is_so: bool, row: &str) -> Result<(), Fail> {
 }
 
 /// Fails with what comes out otherwise.
-pub fn no_difference(found: Result<Option<String>, Memory>) -> Result<(), Fail> {
+pub fn no_difference(found: Option<String>) -> Result<(), Fail> {
     match found {
-        Ok(None) => Ok(()),
-        Ok(Some(other)) => Err(Fail::from(other)),
-        Err(error) => Err(Fail::from(error)),
+        None => Ok(()),
+        Some(other) => Err(Fail::from(other)),
     }
 }
 
 /// Fails with what comes out otherwise than the case says, asked over this folder.
-pub fn passes<R: Threads + Wait + Sync + Copy + Send + 'static>(
+pub fn passes<R: Abort + Threads + Wait + Sync + Copy + Send + 'static>(
     rt: &R,
     alloc: Global,
     folder: &mut MemFolder,
@@ -243,7 +248,7 @@ pub fn passes<R: Threads + Wait + Sync + Copy + Send + 'static>(
 
 /// Fails with the first case, each in a folder of its own, and what comes out otherwise of it. One that asks for a run is asked by `run`
 /// and then by `live`.
-pub fn all_pass<R: Threads + Wait + Sync + Copy + Send + 'static>(
+pub fn all_pass<R: Abort + Threads + Wait + Sync + Copy + Send + 'static>(
     rt: &R,
     alloc: Global,
     cases: &[Case<'_>],
@@ -252,20 +257,20 @@ pub fn all_pass<R: Threads + Wait + Sync + Copy + Send + 'static>(
 }
 
 /// The same of one case in a folder of its own, where this call on the log of this task fails.
-pub fn passes_past<R: Threads + Wait + Sync + Copy + Send + 'static>(
+pub fn passes_past<R: Abort + Threads + Wait + Sync + Copy + Send + 'static>(
     rt: &R,
     alloc: Global,
     task: &Path,
     call: u64,
     case: &Case<'_>,
 ) -> Result<(), Fail> {
-    let mut folder = folder_of(alloc, case)?;
-    folder.fail_log(task, &[call])?;
+    let mut folder = folder_of(rt, alloc, case);
+    folder.fail_log(task, &[call]).expect(rt, "memory");
     passes(rt, alloc, &mut folder, case)
 }
 
 /// Fails with the status and the text that come out, where they aren't these.
-pub fn answers<R: Threads + Wait + Sync + Copy + Send + 'static>(
+pub fn answers<R: Abort + Threads + Wait + Sync + Copy + Send + 'static>(
     rt: &R,
     alloc: Global,
     folder: &mut MemFolder,
@@ -280,53 +285,53 @@ pub fn answers<R: Threads + Wait + Sync + Copy + Send + 'static>(
 pub type Whole<'a> = (&'a str, &'a str, u8, &'a str);
 
 // What comes out otherwise of a kernel that runs to its end.
-fn other_run<R: Threads + Wait + Sync + Copy + Send + 'static>(
+fn other_run<R: Abort + Threads + Wait + Sync + Copy + Send + 'static>(
     rt: &R,
     alloc: Global,
     workers: &str,
     whole: &Whole<'_>,
     stays: bool,
-) -> Result<Option<String>, Memory> {
+) -> Option<String> {
     let (kernel, text, status, races) = whole;
-    let mut folder = MemFolder::new(alloc)?;
-    folder.hold("k", kernel.as_bytes())?;
-    let words = worded(alloc, RUN, stays)?;
-    let ran = other_answer(rt, alloc, &mut folder, &[], &words, DONE, text)?;
+    let mut folder = MemFolder::new(alloc).expect(rt, "memory");
+    folder.hold("k", kernel.as_bytes()).expect(rt, "memory");
+    let words = worded(rt, alloc, RUN, stays);
+    let ran = other_answer(rt, alloc, &mut folder, &[], &words, DONE, text);
     if ran.is_some() {
-        return Ok(ran);
+        return ran;
     }
     let check = ["check", "d", workers];
-    let checked = other_answer(rt, alloc, &mut folder, &[], &check, *status, races)?;
+    let checked = other_answer(rt, alloc, &mut folder, &[], &check, *status, races);
     if checked.is_some() {
-        return Ok(checked);
+        return checked;
     }
     if !are_witnessed(alloc, &mut folder, "d", races) {
-        return Ok(Some(String::from_str(alloc, "the records behind a report")?));
+        return Some(String::from_str(alloc, "the records behind a report").expect(rt, "memory"));
     }
     other_answer(rt, alloc, &mut folder, &[], REPLAY, DONE, "same\n")
 }
 
 // The first kernel, by its number from 0, and what comes out otherwise of it.
-fn first_other_run<R: Threads + Wait + Sync + Copy + Send + 'static>(
+fn first_other_run<R: Abort + Threads + Wait + Sync + Copy + Send + 'static>(
     rt: &R,
     alloc: Global,
     workers: &str,
     kernels: &[Whole<'_>],
-) -> Result<Option<String>, Memory> {
+) -> Option<String> {
     for (number, whole) in kernels.iter().enumerate() {
-        if let Some(other) = other_run(rt, alloc, workers, whole, false)? {
-            return Ok(Some(format!(in alloc; "kernel {number}: {other}")?));
+        if let Some(other) = other_run(rt, alloc, workers, whole, false) {
+            return Some(format!(in alloc; "kernel {number}: {other}").expect(rt, "memory"));
         }
-        if let Some(other) = other_run(rt, alloc, workers, whole, true)? {
-            return Ok(Some(format!(in alloc; "kernel {number} by live: {other}")?));
+        if let Some(other) = other_run(rt, alloc, workers, whole, true) {
+            return Some(format!(in alloc; "kernel {number} by live: {other}").expect(rt, "memory"));
         }
     }
-    Ok(None)
+    None
 }
 
 /// Fails with the first kernel that by `run` or by `live` doesn't run to its end and print its text, or whose folder so many workers don't check so or
 /// isn't a run of it.
-pub fn all_run<R: Threads + Wait + Sync + Copy + Send + 'static>(
+pub fn all_run<R: Abort + Threads + Wait + Sync + Copy + Send + 'static>(
     rt: &R,
     alloc: Global,
     workers: &str,
@@ -339,23 +344,23 @@ pub fn all_run<R: Threads + Wait + Sync + Copy + Send + 'static>(
 pub type Verdict<'a> = (&'a str, u8, &'a str);
 
 // The first kernel, by its number from 0, and what `certify` prints otherwise of it.
-fn first_other_verdict<R: Threads + Wait + Sync + Copy + Send + 'static>(
+fn first_other_verdict<R: Abort + Threads + Wait + Sync + Copy + Send + 'static>(
     rt: &R,
     alloc: Global,
     verdicts: &[Verdict<'_>],
-) -> Result<Option<String>, Memory> {
+) -> Option<String> {
     for (number, (kernel, status, text)) in verdicts.iter().enumerate() {
-        let mut folder = MemFolder::new(alloc)?;
-        folder.hold("k", kernel.as_bytes())?;
-        if let Some(other) = other_answer(rt, alloc, &mut folder, &[], CERTIFY, *status, text)? {
-            return Ok(Some(format!(in alloc; "kernel {number}: {other}")?));
+        let mut folder = MemFolder::new(alloc).expect(rt, "memory");
+        folder.hold("k", kernel.as_bytes()).expect(rt, "memory");
+        if let Some(other) = other_answer(rt, alloc, &mut folder, &[], CERTIFY, *status, text) {
+            return Some(format!(in alloc; "kernel {number}: {other}").expect(rt, "memory"));
         }
     }
-    Ok(None)
+    None
 }
 
 /// Fails with the first kernel that has another verdict.
-pub fn all_judged<R: Threads + Wait + Sync + Copy + Send + 'static>(
+pub fn all_judged<R: Abort + Threads + Wait + Sync + Copy + Send + 'static>(
     rt: &R,
     alloc: Global,
     verdicts: &[Verdict<'_>],

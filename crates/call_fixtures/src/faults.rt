@@ -1,12 +1,13 @@
 //! Each outside call that answers a question fails in turn.
 
-use crate::cases::{Case, folder_of, holds, passes};
+use crate::cases::{Case, folder_of, passes};
 use crate::commands::asked;
 use crate::folders::Step;
 use command_answer::{READ_FAULT, WRITE_FAULT};
 use memory_environment::{MemFolder, MemOut};
 use std::alloc::Global;
 use std::marker::Send;
+use std::process::Abort;
 use std::sync::Wait;
 use std::test::Fail;
 use std::thread::Threads;
@@ -57,27 +58,28 @@ fn path_of(steps: &[Step]) -> Path {
 }
 
 // What the case leaves where the call of this number fails.
-fn left_by<R: Threads + Wait + Sync + Copy + Send + 'static>(
+fn left_by<R: Abort + Threads + Wait + Sync + Copy + Send + 'static>(
     rt: &R,
     alloc: Global,
     case: &Case<'_>,
     place: Place<'_>,
     call: u64,
-) -> Result<Left, Fail> {
-    let mut folder = folder_of(alloc, case)?;
-    let mut out = MemOut::new(alloc)?;
-    match place {
-        Place::Folder => folder.fail(&[call])?,
-        Place::Out => out.fail(&[call])?,
-        Place::Log(steps) => folder.fail_log(&path_of(steps), &[call])?,
-    }
-    let (given, _, _) = case.asked.first().ok_or("a question")?;
-    let status = asked(rt, alloc, &mut folder, given, &mut out, &NoGate)?;
-    Ok(Left {
+) -> Left {
+    let mut folder = folder_of(rt, alloc, case);
+    let mut out = MemOut::new(alloc).expect(rt, "memory");
+    let planned = match place {
+        Place::Folder => folder.fail(&[call]),
+        Place::Out => out.fail(&[call]),
+        Place::Log(steps) => folder.fail_log(&path_of(steps), &[call]),
+    };
+    planned.expect(rt, "memory");
+    let (given, _, _) = case.asked.first().expect(rt, "a question");
+    let status = asked(rt, alloc, &mut folder, given, &mut out, &NoGate);
+    Left {
         status,
         out,
         folder,
-    })
+    }
 }
 
 // How many of these files are whole, where those that are not begin as they should, and only the first of them is there.
@@ -119,19 +121,37 @@ fn has_less_text(left: &Left, due: &Left) -> bool {
     due.out.written().starts_with(text) && text.len() < due.out.written().len()
 }
 
+// How many of the files are put before this call.
+fn put_before(puts: &[u64], call: u64) -> usize {
+    let mut count: usize = 0;
+    for put in puts {
+        if *put < call {
+            count = count.saturating_add(1);
+        }
+    }
+    count
+}
+
+// Whether none of these files is there.
+fn are_missing(folder: &MemFolder, names: &[&str]) -> bool {
+    for name in names {
+        if folder.file(name).is_some() {
+            return false;
+        }
+    }
+    true
+}
+
 // Whether the files are due: none where nothing was to be sealed yet, all where only the text fails.
 fn has_due_files(left: &Left, due: &Left, calls: &Calls<'_>, place: Place<'_>, call: u64) -> bool {
     let all = calls.made.len();
     match (whole_files(&left.folder, &due.folder, calls.made), place) {
         (Some(whole), Place::Out) => whole == all,
         (Some(whole), Place::Folder) if !calls.puts.is_empty() => {
-            whole == calls.puts.iter().filter(|put| **put < call).count()
+            whole == put_before(calls.puts, call)
         }
         (Some(whole), Place::Folder) if calls.reads < call => whole < all,
-        (Some(_), _) => calls
-            .made
-            .iter()
-            .all(|name| left.folder.file(name).is_none()),
+        (Some(_), _) => are_missing(&left.folder, calls.made),
         (None, _) => false,
     }
 }
@@ -144,42 +164,42 @@ fn is_whole(left: &Left, due: &Left, calls: &Calls<'_>) -> bool {
         && whole == Some(calls.made.len())
 }
 
-// Fails with the first of so many calls that leaves something else than is due, or with the one after them if it changes anything.
-fn each_fails<R: Threads + Wait + Sync + Copy + Send + 'static>(
+// Aborts at the first of so many calls that leaves something else than is due, or at the one after them if it changes anything.
+fn each_fails<R: Abort + Threads + Wait + Sync + Copy + Send + 'static>(
     rt: &R,
     alloc: Global,
     calls: &Calls<'_>,
     due: &Left,
     place: Place<'_>,
     count: u64,
-) -> Result<(), Fail> {
+) {
     for call in 1..=count {
-        let left = left_by(rt, alloc, &calls.case, place, call)?;
+        let left = left_by(rt, alloc, &calls.case, place, call);
         let is_due = has_due_status(&left, calls, place, call)
             && has_less_text(&left, due)
             && has_due_files(&left, due, calls, place, call);
-        if !is_due {
-            return Err(Fail::from(format!(in alloc; "call {call}: status {}", left.status)?));
-        }
+        assert!(rt; is_due, "call {call}: status {}", left.status);
     }
-    let past = left_by(rt, alloc, &calls.case, place, count.saturating_add(1))?;
-    holds(is_whole(&past, due, calls), "there are more calls")
+    let past = left_by(rt, alloc, &calls.case, place, count.saturating_add(1));
+    assert!(rt; is_whole(&past, due, calls), "there are more calls");
 }
 
-/// Fails where some call that fails alone leaves something else than it should: the status of a fault, a shorter beginning of the text, and
-/// of the files those before it, the beginning of one at most, and none where a read or a log fails before the first is put.
-pub fn each_call_may_fail<R: Threads + Wait + Sync + Copy + Send + 'static>(
+/// Fails where the case doesn't pass, and aborts where some call that fails alone leaves something else than it should: the status of a
+/// fault, a shorter beginning of the text, and of the files those before it, the beginning of one at most, and none where a read or a log
+/// fails before the first is put.
+pub fn each_call_may_fail<R: Abort + Threads + Wait + Sync + Copy + Send + 'static>(
     rt: &R,
     alloc: Global,
     calls: &Calls<'_>,
 ) -> Result<(), Fail> {
-    passes(rt, alloc, &mut folder_of(alloc, &calls.case)?, &calls.case)?;
-    let due = left_by(rt, alloc, &calls.case, Place::Out, 0)?;
+    let mut folder = folder_of(rt, alloc, &calls.case);
+    passes(rt, alloc, &mut folder, &calls.case)?;
+    let due = left_by(rt, alloc, &calls.case, Place::Out, 0);
     let folder_calls = calls.reads.saturating_add(calls.writes);
-    each_fails(rt, alloc, calls, &due, Place::Folder, folder_calls)?;
-    each_fails(rt, alloc, calls, &due, Place::Out, calls.prints)?;
+    each_fails(rt, alloc, calls, &due, Place::Folder, folder_calls);
+    each_fails(rt, alloc, calls, &due, Place::Out, calls.prints);
     for (steps, count) in calls.logs {
-        each_fails(rt, alloc, calls, &due, Place::Log(steps), *count)?;
+        each_fails(rt, alloc, calls, &due, Place::Log(steps), *count);
     }
     Ok(())
 }

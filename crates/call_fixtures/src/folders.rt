@@ -1,8 +1,8 @@
 //! Folders in memory, made of tasks and their records.
 
 use memory_environment::MemFolder;
-use std::alloc::{AllocError, Global};
-use sw_base::Memory;
+use std::alloc::Global;
+use std::process::Abort;
 
 /// A record: kind, size, line, address and value. Its site is 1 where it reads, else 0.
 pub type Rec = (u8, u8, u32, u64, u64);
@@ -55,66 +55,81 @@ pub const END: Rec = (8, 0, 9, 0, 0);
 /// A root that forks two lanes.
 pub const ROOT: &[Rec] = &[(6, 0, 1, 0, 2), (8, 0, 9, 0, 0)];
 
-fn spell(bytes: &mut Vec<u8>, record: &Rec) -> Result<(), AllocError> {
-    bytes.push(record.0)?;
-    bytes.push(record.1)?;
+fn spell(rt: &impl Abort, bytes: &mut Vec<u8>, record: &Rec) {
+    bytes.push(record.0).expect(rt, "memory");
+    bytes.push(record.1).expect(rt, "memory");
     let site = if record.0 == 1 { 1 } else { 0 };
-    bytes.extend_from_slice(&[0, site])?;
-    bytes.extend_from_slice(&record.2.to_be_bytes())?;
-    bytes.extend_from_slice(&record.3.to_be_bytes())?;
-    bytes.extend_from_slice(&record.4.to_be_bytes())
+    bytes.extend_from_slice(&[0, site]).expect(rt, "memory");
+    bytes
+        .extend_from_slice(&record.2.to_be_bytes())
+        .expect(rt, "memory");
+    bytes
+        .extend_from_slice(&record.3.to_be_bytes())
+        .expect(rt, "memory");
+    bytes
+        .extend_from_slice(&record.4.to_be_bytes())
+        .expect(rt, "memory");
 }
 
-fn spell_row(bytes: &mut Vec<u8>, steps: &[Step], records: usize) -> Result<(), AllocError> {
-    bytes.extend_from_slice(&[0, 0, 0, steps.len().min(255) as u8, 0, 0, 0, 0])?;
+fn spell_row(rt: &impl Abort, bytes: &mut Vec<u8>, steps: &[Step], records: usize) {
+    bytes
+        .extend_from_slice(&[0, 0, 0, steps.len().min(255) as u8, 0, 0, 0, 0])
+        .expect(rt, "memory");
     for at in 0..4 {
         let (region, lane, span) = *steps.get(at).unwrap_or(&(0, 0, 0));
-        bytes.extend_from_slice(&region.to_be_bytes())?;
-        bytes.extend_from_slice(&lane.to_be_bytes())?;
-        bytes.extend_from_slice(&span.to_be_bytes())?;
+        bytes
+            .extend_from_slice(&region.to_be_bytes())
+            .expect(rt, "memory");
+        bytes
+            .extend_from_slice(&lane.to_be_bytes())
+            .expect(rt, "memory");
+        bytes
+            .extend_from_slice(&span.to_be_bytes())
+            .expect(rt, "memory");
     }
-    bytes.extend_from_slice(&(records as u64).to_be_bytes())
+    bytes
+        .extend_from_slice(&(records as u64).to_be_bytes())
+        .expect(rt, "memory");
 }
 
-fn log_name(alloc: Global, steps: &[Step]) -> Result<String, AllocError> {
-    let mut name = String::from_str(alloc, "d/t")?;
+fn log_name(rt: &impl Abort, alloc: Global, steps: &[Step]) -> String {
+    let mut name = String::from_str(alloc, "d/t").expect(rt, "memory");
     for (region, lane, _) in steps {
-        write!(name, "-{region}.{lane}")?;
+        write!(name, "-{region}.{lane}").expect(rt, "memory");
     }
-    name.push_str(".swl")?;
-    Ok(name)
+    name.push_str(".swl").expect(rt, "memory");
+    name
 }
 
 // Puts the logs of these tasks into the folder `d`, and an index with their rows, each file with the header of its kind.
 fn hold_under(
+    rt: &impl Abort,
     alloc: Global,
     folder: &mut MemFolder,
     of_index: &[u8],
     of_log: &[u8],
     tasks: &[Task<'_>],
-) -> Result<(), Memory> {
-    let mut index = of_index.to_vec(alloc)?;
+) {
+    let mut index = of_index.to_vec(alloc).expect(rt, "memory");
     for (steps, records) in tasks {
-        let mut log = of_log.to_vec(alloc)?;
+        let mut log = of_log.to_vec(alloc).expect(rt, "memory");
         for record in records.iter() {
-            spell(&mut log, record)?;
+            spell(rt, &mut log, record);
         }
-        folder.hold(&log_name(alloc, steps)?, &log)?;
-        spell_row(&mut index, steps, records.len())?;
+        folder
+            .hold(&log_name(rt, alloc, steps), &log)
+            .expect(rt, "memory");
+        spell_row(rt, &mut index, steps, records.len());
     }
-    folder.hold("d/index.swi", &index)
+    folder.hold("d/index.swi", &index).expect(rt, "memory");
 }
 
 /// Puts the logs of these tasks into the folder `d`, and an index with their rows.
-pub fn hold_tasks(alloc: Global, folder: &mut MemFolder, tasks: &[Task<'_>]) -> Result<(), Memory> {
-    hold_under(alloc, folder, b"SWIDX002", b"SWLOG002", tasks)
+pub fn hold_tasks(rt: &impl Abort, alloc: Global, folder: &mut MemFolder, tasks: &[Task<'_>]) {
+    hold_under(rt, alloc, folder, b"SWIDX002", b"SWLOG002", tasks);
 }
 
 /// The same by the first format.
-pub fn hold_old_tasks(
-    alloc: Global,
-    folder: &mut MemFolder,
-    tasks: &[Task<'_>],
-) -> Result<(), Memory> {
-    hold_under(alloc, folder, b"SWIDX001", b"SWLOG001", tasks)
+pub fn hold_old_tasks(rt: &impl Abort, alloc: Global, folder: &mut MemFolder, tasks: &[Task<'_>]) {
+    hold_under(rt, alloc, folder, b"SWIDX001", b"SWLOG001", tasks);
 }

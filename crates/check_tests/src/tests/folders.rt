@@ -6,8 +6,9 @@ use call_fixtures::{
 };
 use command_answer::{DONE, FOLDER_REFUSED, KERNEL_REFUSED, RACES, USAGE};
 use memory_environment::MemFolder;
-use std::alloc::{AllocError, Global};
+use std::alloc::Global;
 use std::marker::Send;
+use std::process::Abort;
 use std::sync::Wait;
 use std::test::Fail;
 use std::thread::Threads;
@@ -453,25 +454,27 @@ const NAMED: &[Question<'static>] = &[
 ];
 
 // The words, with this name in the place of NAME.
-fn named<'a>(alloc: Global, given: &[&'a str], name: &'a str) -> Result<Vec<&'a str>, AllocError> {
+fn named<'a>(rt: &impl Abort, alloc: Global, given: &[&'a str], name: &'a str) -> Vec<&'a str> {
     let mut words = Vec::new(alloc);
     for word in given {
-        words.push(if *word == "NAME" { name } else { *word })?;
+        words
+            .push(if *word == "NAME" { name } else { *word })
+            .expect(rt, "memory");
     }
-    Ok(words)
+    words
 }
 
 // Fails with what is answered otherwise where the name has so many bytes: each row's own answer, or the usage line.
-fn answers_named<R: Threads + Wait + Sync + Copy + Send + 'static>(
+fn answers_named<R: Abort + Threads + Wait + Sync + Copy + Send + 'static>(
     rt: &R,
     alloc: Global,
     count: usize,
     is_name: bool,
 ) -> Result<(), Fail> {
-    let name = "d".repeat(alloc, count)?;
-    let mut folder = MemFolder::new(alloc)?;
+    let name = "d".repeat(alloc, count).expect(rt, "memory");
+    let mut folder = MemFolder::new(alloc).expect(rt, "memory");
     for (given, status, text) in NAMED {
-        let words = named(alloc, given, &name)?;
+        let words = named(rt, alloc, given, &name);
         let (status, text) = if is_name {
             (*status, *text)
         } else {

@@ -36,8 +36,8 @@ fn a_generated_run_has_one_race(rt: HostRuntime) -> Result<(), Fail> {
 #[test]
 fn a_large_generated_folder_is_checked(rt: HostRuntime) -> Result<(), Fail> {
     let alloc = rt.alloc();
-    let mut folder = MemFolder::new(alloc)?;
-    generate(alloc, &mut folder, "g", 100_000)?;
+    let mut folder = MemFolder::new(alloc).expect(&rt, "memory");
+    generate(alloc, &mut folder, "g", 100_000).expect(&rt, "memory");
     let check = ["check", "g", "8"];
     answers(
         &rt,

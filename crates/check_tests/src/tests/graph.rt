@@ -6,9 +6,8 @@ use call_fixtures::{Rec, Step, hold_tasks};
 use command_answer::RACES;
 use explain::{RacePair, confirm, explain};
 use memory_environment::MemFolder;
-use std::alloc::{AllocError, Global};
-use std::test::Fail;
-use sw_base::Memory;
+use std::alloc::Global;
+use std::process::Abort;
 
 const READ: u8 = 1;
 
@@ -68,45 +67,48 @@ impl Numbers {
 }
 
 /// Some accesses, with no mutex, one or two. The mutexes are 1 and 2, so that a set of them is told by a sum.
-fn add_accesses(numbers: &mut Numbers, records: &mut Vec<Rec>) -> Result<(), AllocError> {
+fn add_accesses(rt: &impl Abort, numbers: &mut Numbers, records: &mut Vec<Rec>) {
     let mutexes = numbers.below(6);
     for mutex in [1, 2] {
         if mutexes & mutex != 0 && mutexes < 4 {
-            records.push((LOCK, 0, 2, mutex, 0))?;
+            records.push((LOCK, 0, 2, mutex, 0)).expect(rt, "memory");
         }
     }
     for _ in 0..numbers.below(3) {
-        records.push(numbers.access())?;
+        records.push(numbers.access()).expect(rt, "memory");
     }
     for mutex in [2, 1] {
         if mutexes & mutex != 0 && mutexes < 4 {
-            records.push((UNLOCK, 0, 4, mutex, 0))?;
+            records.push((UNLOCK, 0, 4, mutex, 0)).expect(rt, "memory");
         }
     }
-    Ok(())
 }
 
 /// Forks the task's next region: its lanes with no record yet.
 fn fork(
+    rt: &impl Abort,
     alloc: Global,
     numbers: &mut Numbers,
     task: &mut Task,
     region: u32,
     lanes: &mut Vec<Task>,
-) -> Result<(), AllocError> {
+) {
     let span = numbers.below(3) as u16 + 1;
     let barriers = numbers.below(3);
-    task.records.push((REGION, 0, 6, 0, u64::from(span)))?;
+    task.records
+        .push((REGION, 0, 6, 0, u64::from(span)))
+        .expect(rt, "memory");
     for lane in 0..span {
-        let mut steps = task.steps.clone()?;
-        steps.push((region, lane, span))?;
-        lanes.push(Task {
-            steps,
-            barriers,
-            records: Vec::new(alloc),
-        })?;
+        let mut steps = task.steps.clone().expect(rt, "memory");
+        steps.push((region, lane, span)).expect(rt, "memory");
+        lanes
+            .push(Task {
+                steps,
+                barriers,
+                records: Vec::new(alloc),
+            })
+            .expect(rt, "memory");
     }
-    Ok(())
 }
 
 /// How many regions a task forks, by its depth.
@@ -114,54 +116,58 @@ type Regions = [u32; 4];
 
 /// Gives the task its records, and adds the lanes that it forks.
 fn fill(
+    rt: &impl Abort,
     alloc: Global,
     numbers: &mut Numbers,
     regions: &Regions,
     task: &mut Task,
     lanes: &mut Vec<Task>,
-) -> Result<(), AllocError> {
+) {
     let regions = regions.get(task.steps.len()).copied().unwrap_or(0);
     for turn in 0..3 {
         let barrier_first = numbers.below(2) == 0;
         let has_barrier = u64::from(turn) < task.barriers;
-        add_accesses(numbers, &mut task.records)?;
+        add_accesses(rt, numbers, &mut task.records);
         if has_barrier && barrier_first {
-            task.records.push((BARRIER, 0, 5, 0, 0))?;
+            task.records
+                .push((BARRIER, 0, 5, 0, 0))
+                .expect(rt, "memory");
         }
         if turn < regions {
-            fork(alloc, numbers, task, turn, lanes)?;
-            add_accesses(numbers, &mut task.records)?;
+            fork(rt, alloc, numbers, task, turn, lanes);
+            add_accesses(rt, numbers, &mut task.records);
         }
         if has_barrier && !barrier_first {
-            task.records.push((BARRIER, 0, 5, 0, 0))?;
+            task.records
+                .push((BARRIER, 0, 5, 0, 0))
+                .expect(rt, "memory");
         }
     }
-    add_accesses(numbers, &mut task.records)?;
-    task.records.push((END, 0, 8, 0, 0))?;
-    Ok(())
+    add_accesses(rt, numbers, &mut task.records);
+    task.records.push((END, 0, 8, 0, 0)).expect(rt, "memory");
 }
 
 /// Takes the task that waits on top, gives it its records, and has its lanes wait, the first on top.
 fn finish_next(
+    rt: &impl Abort,
     alloc: Global,
     numbers: &mut Numbers,
     regions: &Regions,
     waiting: &mut Vec<Task>,
     tasks: &mut Vec<Task>,
-) -> Result<(), AllocError> {
+) {
     let Some(mut task) = waiting.pop() else {
-        return Ok(());
+        return;
     };
     let mut lanes = Vec::new(alloc);
-    fill(alloc, numbers, regions, &mut task, &mut lanes)?;
+    fill(rt, alloc, numbers, regions, &mut task, &mut lanes);
     lanes.reverse();
-    waiting.append(&mut lanes)?;
-    tasks.push(task)?;
-    Ok(())
+    waiting.append(&mut lanes).expect(rt, "memory");
+    tasks.push(task).expect(rt, "memory");
 }
 
 /// The tasks of a run with accesses at so many lines, in the order of their rows.
-fn run(alloc: Global, state: u64, lines: u32, regions: &Regions) -> Result<Vec<Task>, AllocError> {
+fn run(rt: &impl Abort, alloc: Global, state: u64, lines: u32, regions: &Regions) -> Vec<Task> {
     let mut numbers = Numbers {
         state,
         accesses: 0,
@@ -172,23 +178,23 @@ fn run(alloc: Global, state: u64, lines: u32, regions: &Regions) -> Result<Vec<T
         barriers: 0,
         records: Vec::new(alloc),
     };
-    let mut waiting = vec![in alloc; root]?;
+    let mut waiting = vec![in alloc; root].expect(rt, "memory");
     let mut tasks = Vec::new(alloc);
     for _ in 0..1000 {
-        finish_next(alloc, &mut numbers, regions, &mut waiting, &mut tasks)?;
+        finish_next(rt, alloc, &mut numbers, regions, &mut waiting, &mut tasks);
     }
-    Ok(tasks)
+    tasks
 }
 
 /// The folder of the run.
-fn folder_of(alloc: Global, tasks: &[Task]) -> Result<MemFolder, Memory> {
+fn folder_of(rt: &impl Abort, alloc: Global, tasks: &[Task]) -> MemFolder {
     let mut all: Vec<(&[Step], &[Rec])> = Vec::new(alloc);
     for task in tasks {
-        all.push((&task.steps, &task.records))?;
+        all.push((&task.steps, &task.records)).expect(rt, "memory");
     }
-    let mut folder = MemFolder::new(alloc)?;
-    hold_tasks(alloc, &mut folder, &all)?;
-    Ok(folder)
+    let mut folder = MemFolder::new(alloc).expect(rt, "memory");
+    hold_tasks(rt, alloc, &mut folder, &all);
+    folder
 }
 
 /// A record of the run, by its log and its place there.
@@ -207,20 +213,22 @@ struct Node<'a> {
 }
 
 /// The records of one task.
-fn add_nodes<'a>(nodes: &mut Vec<Node<'a>>, row: u32, task: &'a Task) -> Result<(), AllocError> {
+fn add_nodes<'a>(rt: &impl Abort, nodes: &mut Vec<Node<'a>>, row: u32, task: &'a Task) {
     let mut regions: u32 = 0;
     let mut barriers: u32 = 0;
     let mut held = 0;
     for (index, record) in task.records.iter().enumerate() {
-        nodes.push(Node {
-            row,
-            steps: &task.steps,
-            index,
-            record: *record,
-            regions,
-            barriers,
-            held,
-        })?;
+        nodes
+            .push(Node {
+                row,
+                steps: &task.steps,
+                index,
+                record: *record,
+                regions,
+                barriers,
+                held,
+            })
+            .expect(rt, "memory");
         match record.0 {
             REGION => regions = regions.wrapping_add(1),
             BARRIER => barriers = barriers.wrapping_add(1),
@@ -229,7 +237,6 @@ fn add_nodes<'a>(nodes: &mut Vec<Node<'a>>, row: u32, task: &'a Task) -> Result<
             _ => {}
         }
     }
-    Ok(())
 }
 
 /// The record forks the task of this path.
@@ -265,50 +272,51 @@ fn is_edge_past(x: &Node<'_>, before: &Node<'_>) -> bool {
 }
 
 /// For each record the numbers of those to which it has an edge.
-fn edges(alloc: Global, nodes: &[Node<'_>]) -> Result<Vec<Vec<usize>>, AllocError> {
+fn edges(rt: &impl Abort, alloc: Global, nodes: &[Node<'_>]) -> Vec<Vec<usize>> {
     let mut all = Vec::new(alloc);
     for x in nodes {
         let mut after = Vec::new(alloc);
+        let mut before = None;
         for (number, y) in nodes.iter().enumerate() {
-            let is_edge = match number.checked_sub(1).and_then(|number| nodes.get(number)) {
+            let is_edge = match before {
                 Some(before) if y.index > 0 => is_edge_past(x, before),
                 _ => forks(x, y.steps),
             };
             if is_edge {
-                after.push(number)?;
+                after.push(number).expect(rt, "memory");
             }
+            before = Some(y);
         }
-        all.push(after)?;
+        all.push(after).expect(rt, "memory");
     }
-    Ok(all)
+    all
 }
 
 /// Finds these records, and has those wait that weren't found before.
-fn find(after: &[usize], found: &mut [bool], waiting: &mut Vec<usize>) -> Result<(), AllocError> {
+fn find(rt: &impl Abort, after: &[usize], found: &mut [bool], waiting: &mut Vec<usize>) {
     for y in after {
         if let Some(is_found) = found.get_mut(*y)
             && !*is_found
         {
             *is_found = true;
-            waiting.push(*y)?;
+            waiting.push(*y).expect(rt, "memory");
         }
     }
-    Ok(())
 }
 
 /// Which records are reached along edges from this one.
-fn reached(alloc: Global, edges: &[Vec<usize>], from: usize) -> Result<Vec<bool>, AllocError> {
-    let mut found = vec![in alloc; false; edges.len()]?;
-    let mut waiting = vec![in alloc; from]?;
+fn reached(rt: &impl Abort, alloc: Global, edges: &[Vec<usize>], from: usize) -> Vec<bool> {
+    let mut found = vec![in alloc; false; edges.len()].expect(rt, "memory");
+    let mut waiting = vec![in alloc; from].expect(rt, "memory");
     for _ in edges {
         let Some(x) = waiting.pop() else {
             break;
         };
         if let Some(after) = edges.get(x) {
-            find(after, &mut found, &mut waiting)?;
+            find(rt, after, &mut found, &mut waiting);
         }
     }
-    Ok(found)
+    found
 }
 
 /// The records are accesses of a common byte, one a write, with no common mutex.
@@ -323,13 +331,15 @@ fn conflict(x: &Node<'_>, y: &Node<'_>) -> bool {
 }
 
 /// For each record which records are reached along edges from it.
-fn all_reached(alloc: Global, nodes: &[Node<'_>]) -> Result<Vec<Vec<bool>>, AllocError> {
-    let edges = edges(alloc, nodes)?;
+fn all_reached(rt: &impl Abort, alloc: Global, nodes: &[Node<'_>]) -> Vec<Vec<bool>> {
+    let edges = edges(rt, alloc, nodes);
     let mut after = Vec::new(alloc);
     for number in 0..nodes.len() {
-        after.push(reached(alloc, &edges, number)?)?;
+        after
+            .push(reached(rt, alloc, &edges, number))
+            .expect(rt, "memory");
     }
-    Ok(after)
+    after
 }
 
 /// The smaller line of two records, and the greater one.
@@ -359,41 +369,50 @@ fn race_of(x: &Node<'_>, y: &Node<'_>) -> RacePair {
 /// Two accesses that race, with their lines, the smaller first.
 type Race = ((u32, u32), RacePair);
 
+/// There is a path of edges from one record to the other.
+fn is_reached(after: &[Vec<bool>], from: usize, to: usize) -> bool {
+    match after.get(from) {
+        Some(reached) => reached.get(to).copied().unwrap_or(true),
+        None => true,
+    }
+}
+
 /// The accesses that race: in order of the first one, and then of the second.
-fn races(alloc: Global, nodes: &[Node<'_>]) -> Result<Vec<Race>, AllocError> {
-    let after = all_reached(alloc, nodes)?;
+fn races(rt: &impl Abort, alloc: Global, nodes: &[Node<'_>]) -> Vec<Race> {
+    let after = all_reached(rt, alloc, nodes);
     let mut found = Vec::new(alloc);
-    for (x, (one, after_one)) in nodes.iter().zip(after.iter()).enumerate() {
-        for (y, (other, after_other)) in nodes.iter().zip(after.iter()).enumerate() {
-            let is_before = after_one.get(y).copied().unwrap_or(true);
-            let is_after = after_other.get(x).copied().unwrap_or(true);
-            if x < y && conflict(one, other) && !is_before && !is_after {
-                found.push((lines_of(one, other), race_of(one, other)))?;
+    for (x, one) in nodes.iter().enumerate() {
+        for (y, other) in nodes.iter().enumerate() {
+            let is_ordered = is_reached(&after, x, y) || is_reached(&after, y, x);
+            if x < y && conflict(one, other) && !is_ordered {
+                found
+                    .push((lines_of(one, other), race_of(one, other)))
+                    .expect(rt, "memory");
             }
         }
     }
-    Ok(found)
+    found
 }
 
 /// The lines of the accesses that race, the smaller first.
-fn race_pairs(alloc: Global, nodes: &[Node<'_>]) -> Result<Vec<(u32, u32)>, AllocError> {
+fn race_pairs(rt: &impl Abort, alloc: Global, nodes: &[Node<'_>]) -> Vec<(u32, u32)> {
     let mut pairs = Vec::new(alloc);
-    for (lines, _) in races(alloc, nodes)?.iter() {
-        pairs.push(*lines)?;
+    for (lines, _) in &races(rt, alloc, nodes) {
+        pairs.push(*lines).expect(rt, "memory");
     }
-    pairs.sort()?;
-    Ok(pairs)
+    pairs.sort().expect(rt, "memory");
+    pairs
 }
 
 /// The report of the race pairs.
-fn report(alloc: Global, pairs: &[(u32, u32)]) -> Result<String, AllocError> {
+fn report(rt: &impl Abort, alloc: Global, pairs: &[(u32, u32)]) -> String {
     let mut text = String::new(alloc);
     for (line, other) in pairs {
-        write!(text, "race {line} {other}\n")?;
+        write!(text, "race {line} {other}\n").expect(rt, "memory");
     }
     let count = pairs.len();
-    write!(text, "races {count}\n")?;
-    Ok(text)
+    write!(text, "races {count}\n").expect(rt, "memory");
+    text
 }
 
 /// How many segments the tasks have.
@@ -411,40 +430,44 @@ fn segments(tasks: &[Task]) -> usize {
     count
 }
 
+/// Some lane at the greatest depth passes a barrier.
+fn has_deep_barrier(tasks: &[Task]) -> bool {
+    for task in tasks {
+        if task.steps.len() == 4 && task.barriers > 0 {
+            return true;
+        }
+    }
+    false
+}
+
 /// The records of the run.
-fn nodes_of(alloc: Global, tasks: &[Task]) -> Result<Vec<Node<'_>>, AllocError> {
+fn nodes_of<'a>(rt: &impl Abort, alloc: Global, tasks: &'a [Task]) -> Vec<Node<'a>> {
     let mut nodes = Vec::new(alloc);
     let mut row: u32 = 0;
     for task in tasks {
         row = row.wrapping_add(1);
-        add_nodes(&mut nodes, row, task)?;
+        add_nodes(rt, &mut nodes, row, task);
     }
-    Ok(nodes)
+    nodes
 }
 
 /// The report of the run's race pairs.
-fn due_report(alloc: Global, tasks: &[Task]) -> Result<String, AllocError> {
-    let nodes = nodes_of(alloc, tasks)?;
-    let pairs = race_pairs(alloc, &nodes)?;
-    report(alloc, &pairs)
+fn due_report(rt: &impl Abort, alloc: Global, tasks: &[Task]) -> String {
+    let nodes = nodes_of(rt, alloc, tasks);
+    let pairs = race_pairs(rt, alloc, &nodes);
+    report(rt, alloc, &pairs)
 }
 
 #[test]
-fn races_are_those_of_a_search_of_the_graph(rt: HostRuntime) -> Result<(), Fail> {
+fn races_are_those_of_a_search_of_the_graph(rt: HostRuntime) {
     let alloc = rt.alloc();
     for state in [3, 6] {
-        let tasks = run(alloc, state, u32::MAX, &[3, 3, 1, 1])?;
-        assert!(rt; segments(&tasks) >= 300);
-        assert!(rt;
-            tasks
-                .iter()
-                .any(|task| task.steps.len() == 4 && task.barriers > 0)
-        );
-        let text = due_report(alloc, &tasks)?;
-        let mut folder = folder_of(alloc, &tasks)?;
-        each_answers(&rt, alloc, &mut folder, RACES, &text)?;
+        let tasks = run(&rt, alloc, state, u32::MAX, &[3, 3, 1, 1]);
+        assert!(rt; segments(&tasks) >= 300 && has_deep_barrier(&tasks));
+        let text = due_report(&rt, alloc, &tasks);
+        let mut folder = folder_of(&rt, alloc, &tasks);
+        each_answers(&rt, alloc, &mut folder, RACES, &text);
     }
-    Ok(())
 }
 
 /// The byte at which two records are confirmed to race.
@@ -511,15 +534,14 @@ fn other_least(alloc: Global, folder: &mut MemFolder, found: &[Race]) -> usize {
 }
 
 #[test]
-fn witnesses_are_those_of_a_search_of_the_graph(rt: HostRuntime) -> Result<(), Fail> {
+fn witnesses_are_those_of_a_search_of_the_graph(rt: HostRuntime) {
     let alloc = rt.alloc();
     for state in 1..11 {
-        let tasks = run(alloc, state, 3, &[2, 1, 0, 0])?;
-        let nodes = nodes_of(alloc, &tasks)?;
-        let found = races(alloc, &nodes)?;
-        let mut folder = folder_of(alloc, &tasks)?;
-        assert_eq!(rt; others(alloc, &mut folder, &nodes, &found), 0);
-        assert_eq!(rt; other_least(alloc, &mut folder, &found), 0);
+        let tasks = run(&rt, alloc, state, 3, &[2, 1, 0, 0]);
+        let nodes = nodes_of(&rt, alloc, &tasks);
+        let found = races(&rt, alloc, &nodes);
+        let mut folder = folder_of(&rt, alloc, &tasks);
+        assert!(rt; others(alloc, &mut folder, &nodes, &found) == 0);
+        assert!(rt; other_least(alloc, &mut folder, &found) == 0);
     }
-    Ok(())
 }

@@ -3,6 +3,7 @@
 use host_environment::{HostFolder, write_whole};
 use std::alloc::Global;
 use std::io::{self, Write};
+use std::process::Abort;
 use std::test::Fail;
 use std::{env, fs, process};
 use sw_base::{Folder, Log, Trouble, read_file};
@@ -27,16 +28,16 @@ fn has_bytes(folder: &mut Host, alloc: Global, name: &str, bytes: &[u8]) -> bool
 }
 
 // Writes pieces of two logs in turn, and seals one of them.
-fn write_logs(folder: &mut Host, alloc: Global, dir: &str) -> Result<bool, Trouble> {
-    let mut root = folder.root(alloc, dir)?;
-    root.append(alloc, b"SWLOG002")?;
-    let mut lane = root.child(alloc, 0, 1, 2)?;
-    lane.append(alloc, b"one")?;
-    root.append(alloc, b" and")?;
-    root.append(alloc, b" more")?;
-    lane.append(alloc, b" two")?;
+fn write_logs(rt: &impl Abort, folder: &mut Host, alloc: Global, dir: &str) -> bool {
+    let mut root = folder.root(alloc, dir).expect(rt, "a log");
+    root.append(alloc, b"SWLOG002").expect(rt, "a whole piece");
+    let mut lane = root.child(alloc, 0, 1, 2).expect(rt, "a log");
+    lane.append(alloc, b"one").expect(rt, "a whole piece");
+    root.append(alloc, b" and").expect(rt, "a whole piece");
+    root.append(alloc, b" more").expect(rt, "a whole piece");
+    lane.append(alloc, b" two").expect(rt, "a whole piece");
     folder.discard(lane);
-    Ok(folder.seal(alloc, root).is_ok())
+    folder.seal(alloc, root).is_ok()
 }
 
 #[test]
@@ -49,27 +50,31 @@ fn logs_are_written_piece_by_piece(rt: HostRuntime) -> Result<(), Fail> {
     let mut folder = HostFolder::new(rt);
     // A second run finds the first one's logs, and begins with empty ones.
     for _ in 0..2 {
-        assert!(rt; write_logs(&mut folder, alloc, &dir) == Ok(true));
-        assert!(rt; has_bytes(&mut folder, alloc, &of_root, b"SWLOG002 and more"));
-        assert!(rt; has_bytes(&mut folder, alloc, &of_lane, b"one two"));
+        assert!(rt; write_logs(&rt, &mut folder, alloc, &dir));
+        assert!(rt;
+            has_bytes(&mut folder, alloc, &of_root, b"SWLOG002 and more")
+                && has_bytes(&mut folder, alloc, &of_lane, b"one two")
+        );
     }
     assert!(rt; folder.faults() == (0, 0));
-    Ok(fs::remove_dir_all(&rt, &top)?)
+    fs::remove_dir_all(&rt, &top).expect(&rt, "no folder");
+    Ok(())
 }
 
 // The file's bytes from a place on, as one call reads them.
 fn part(
+    rt: &impl Abort,
     folder: &mut Host,
     alloc: Global,
     name: &str,
     at: u64,
     room: usize,
-) -> Result<Vec<u8>, Trouble> {
+) -> Vec<u8> {
     let mut into = Vec::new(alloc);
-    into.resize(room, 0)?;
-    let count = folder.read(alloc, name, at, &mut into)?;
+    into.resize(room, 0).expect(rt, "memory");
+    let count = folder.read(alloc, name, at, &mut into).expect(rt, "bytes");
     into.truncate(count);
-    Ok(into)
+    into
 }
 
 // Where a call begins to read, and how many bytes it has room for.
@@ -84,13 +89,12 @@ const PARTS: &[(usize, usize)] = &[
 ];
 
 // Whether each part of the file is that of these bytes.
-fn has_parts(folder: &mut Host, alloc: Global, name: &str, bytes: &[u8]) -> bool {
+fn has_parts(rt: &impl Abort, folder: &mut Host, alloc: Global, name: &str, bytes: &[u8]) -> bool {
     for (at, room) in PARTS {
         let left = bytes.get(*at..).unwrap_or(&[]);
         let due = left.get(..*room).unwrap_or(left);
-        match part(folder, alloc, name, *at as u64, *room) {
-            Ok(read) if read.as_slice() == due => {}
-            _ => return false,
+        if part(rt, folder, alloc, name, *at as u64, *room).as_slice() != due {
+            return false;
         }
     }
     true
@@ -108,13 +112,16 @@ fn a_file_is_read_from_each_place(rt: HostRuntime) -> Result<(), Fail> {
     }
     assert!(rt; folder.put(alloc, &name, &bytes) == Ok(()));
     assert!(rt; folder.size(alloc, &name) == Ok(Some(10_000)));
-    assert!(rt; has_bytes(&mut folder, alloc, &name, &bytes));
-    assert!(rt; has_parts(&mut folder, alloc, &name, &bytes));
+    assert!(rt;
+        has_bytes(&mut folder, alloc, &name, &bytes)
+            && has_parts(&rt, &mut folder, alloc, &name, &bytes)
+    );
     // A shorter file takes the place of a longer one.
     assert!(rt; folder.put(alloc, &name, b"short") == Ok(()));
     assert!(rt; folder.size(alloc, &name) == Ok(Some(5)));
     assert!(rt; folder.faults() == (0, 0));
-    Ok(fs::remove_dir_all(&rt, &dir)?)
+    fs::remove_dir_all(&rt, &dir).expect(&rt, "no folder");
+    Ok(())
 }
 
 #[test]
@@ -126,10 +133,13 @@ fn a_put_makes_the_folder_of_its_name(rt: HostRuntime) -> Result<(), Fail> {
     let mut folder = HostFolder::new(rt);
     assert!(rt; folder.put(alloc, &name, b"log") == Ok(()));
     assert!(rt; folder.put(alloc, &beside, b"index") == Ok(()));
-    assert!(rt; has_bytes(&mut folder, alloc, &name, b"log"));
-    assert!(rt; has_bytes(&mut folder, alloc, &beside, b"index"));
+    assert!(rt;
+        has_bytes(&mut folder, alloc, &name, b"log")
+            && has_bytes(&mut folder, alloc, &beside, b"index")
+    );
     assert!(rt; folder.faults() == (0, 0));
-    Ok(fs::remove_dir_all(&rt, &top)?)
+    fs::remove_dir_all(&rt, &top).expect(&rt, "no folder");
+    Ok(())
 }
 
 // Whether a file isn't there, and so has no byte.
@@ -147,13 +157,13 @@ fn what_is_not_there_has_no_byte(rt: HostRuntime) -> Result<(), Fail> {
     let mut folder = HostFolder::new(rt);
     let root = folder.root(alloc, &dir).expect(&rt, "a log");
     folder.discard(root);
-    assert!(rt; is_missing(&mut folder, alloc, &name));
-    assert!(rt; is_missing(&mut folder, alloc, &below));
+    assert!(rt; is_missing(&mut folder, alloc, &name) && is_missing(&mut folder, alloc, &below));
     assert!(rt; folder.faults() == (0, 0));
     assert!(rt; folder.put(alloc, &below, b"bytes") == Err(Trouble::Failed));
     assert!(rt; folder.root(alloc, &below).is_err());
     assert!(rt; folder.faults() == (0, 2));
-    Ok(fs::remove_dir_all(&rt, &dir)?)
+    fs::remove_dir_all(&rt, &dir).expect(&rt, "no folder");
+    Ok(())
 }
 
 #[test]
@@ -175,7 +185,8 @@ fn what_can_not_be_written_is_a_fault(rt: HostRuntime) -> Result<(), Fail> {
     // The folder counts the fault of a log that is given back.
     folder.discard(root);
     assert!(rt; folder.faults() == (1, 3));
-    Ok(fs::remove_dir_all(&rt, &dir)?)
+    fs::remove_dir_all(&rt, &dir).expect(&rt, "no folder");
+    Ok(())
 }
 
 // A writer that takes three bytes a call, and writes them at a flush.

@@ -5,7 +5,8 @@ use call_fixtures::{
 };
 use command_answer::FOLDER_REFUSED;
 use memory_environment::MemFolder;
-use std::alloc::{AllocError, Global};
+use std::alloc::Global;
+use std::process::Abort;
 use std::test::Fail;
 
 const CHECK: &[&str] = &["check", "d", "2"];
@@ -186,30 +187,35 @@ fn bytes_that_are_no_index_or_log_are_told(rt: HostRuntime) -> Result<(), Fail> 
 }
 
 // The row of a lane that is alone in this region, whose log has one record.
-fn add_row(index: &mut Vec<u8>, region: u32) -> Result<(), AllocError> {
-    index.extend_from_slice(&[0, 0, 0, 1, 0, 0, 0, 0])?;
-    index.extend_from_slice(&region.to_be_bytes())?;
-    index.extend_from_slice(&[0, 0, 0, 1])?;
-    index.extend_from_slice(&[0; 31])?;
-    index.push(1)?;
-    Ok(())
+fn add_row(rt: &impl Abort, index: &mut Vec<u8>, region: u32) {
+    index
+        .extend_from_slice(&[0, 0, 0, 1, 0, 0, 0, 0])
+        .expect(rt, "memory");
+    index
+        .extend_from_slice(&region.to_be_bytes())
+        .expect(rt, "memory");
+    index.extend_from_slice(&[0, 0, 0, 1]).expect(rt, "memory");
+    index.extend_from_slice(&[0; 31]).expect(rt, "memory");
+    index.push(1).expect(rt, "memory");
 }
 
 // The index of a root with 65,535 regions of one lane each, and a byte after it.
-fn crowded_index(alloc: Global) -> Result<Vec<u8>, AllocError> {
-    let mut index = ROOT_ROW.as_bytes().to_vec(alloc)?;
+fn crowded_index(rt: &impl Abort, alloc: Global) -> Vec<u8> {
+    let mut index = ROOT_ROW.as_bytes().to_vec(alloc).expect(rt, "memory");
     for region in 0..65_535 {
-        add_row(&mut index, region)?;
+        add_row(rt, &mut index, region);
     }
-    index.push(0)?;
-    Ok(index)
+    index.push(0).expect(rt, "memory");
+    index
 }
 
 #[test]
 fn a_row_too_many_is_told(rt: HostRuntime) -> Result<(), Fail> {
     let alloc = rt.alloc();
-    let mut folder = MemFolder::new(alloc)?;
-    folder.hold("d/index.swi", &crowded_index(alloc)?)?;
+    let mut folder = MemFolder::new(alloc).expect(&rt, "memory");
+    folder
+        .hold("d/index.swi", &crowded_index(&rt, alloc))
+        .expect(&rt, "memory");
     let text = "bad index row 65537: TooMany\n";
     answers(&rt, alloc, &mut folder, CHECK, FOLDER_REFUSED, text)
 }

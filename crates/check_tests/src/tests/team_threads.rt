@@ -6,7 +6,6 @@ use command_answer::DONE;
 use memory_environment::{MemFolder, MemOut};
 use std::alloc::Global;
 use std::sync::atomic::{AtomicU64, Ordering};
-use std::test::Fail;
 use sw_base::Gate;
 
 // The number of the thread that asks, or 0 where the host doesn't tell it.
@@ -39,7 +38,7 @@ const THREE_PHASES: &str =
     "array a i64 4 main { parallel 2 { a[tid] = 1 barrier a[2 + tid] = 2 barrier a[tid] = 3 } }";
 
 #[test]
-fn a_lane_stays_on_its_thread_in_live(rt: HostRuntime) -> Result<(), Fail> {
+fn a_lane_stays_on_its_thread_in_live(rt: HostRuntime) {
     let alloc = rt.alloc();
     let gate = ThreadGate {
         rt,
@@ -47,15 +46,16 @@ fn a_lane_stays_on_its_thread_in_live(rt: HostRuntime) -> Result<(), Fail> {
         phases: AtomicU64::new(0),
         threads: [AtomicU64::new(0), AtomicU64::new(0), AtomicU64::new(0)],
     };
-    let mut folder = MemFolder::new(alloc)?;
-    folder.hold("k", THREE_PHASES.as_bytes())?;
-    let mut out = MemOut::new(alloc)?;
+    let mut folder = MemFolder::new(alloc).expect(&rt, "memory");
+    folder
+        .hold("k", THREE_PHASES.as_bytes())
+        .expect(&rt, "memory");
+    let mut out = MemOut::new(alloc).expect(&rt, "memory");
     let words = &["live", "k", "d", "4096"];
-    let status = asked(&rt, alloc, &mut folder, words, &mut out, &gate)?;
+    let status = asked(&rt, alloc, &mut folder, words, &mut out, &gate);
     assert!(rt; status == DONE && gate.phases.load(Ordering::SeqCst) == 3);
     let [first, second, third] = &gate.threads;
     let first = first.load(Ordering::SeqCst);
     assert!(rt; first > 0 && first != this_thread(rt, alloc));
     assert!(rt; second.load(Ordering::SeqCst) == first && third.load(Ordering::SeqCst) == first);
-    Ok(())
 }

@@ -3,7 +3,8 @@
 use call_fixtures::{BARRIER, Case, EMPTY, END, ROOT, Rec, answers, folder_of, region, store};
 use command_answer::FOLDER_REFUSED;
 use memory_environment::MemFolder;
-use std::alloc::{AllocError, Global};
+use std::alloc::Global;
+use std::process::Abort;
 use std::test::Fail;
 
 const CHECK: &[&str] = &["check", "d", "2"];
@@ -14,20 +15,22 @@ const TWO_LANES: Case<'static> = Case {
 };
 
 // A folder with these files of another one.
-fn with_files(alloc: Global, whole: &MemFolder, names: &[&str]) -> Result<MemFolder, Fail> {
-    let mut folder = MemFolder::new(alloc)?;
+fn with_files(rt: &impl Abort, alloc: Global, whole: &MemFolder, names: &[&str]) -> MemFolder {
+    let mut folder = MemFolder::new(alloc).expect(rt, "memory");
     for name in names {
-        folder.hold(name, whole.file(name).ok_or("a file")?)?;
+        folder
+            .hold(name, whole.file(name).expect(rt, "a file"))
+            .expect(rt, "memory");
     }
-    Ok(folder)
+    folder
 }
 
 #[test]
 fn a_missing_log_is_named(rt: HostRuntime) -> Result<(), Fail> {
     let alloc = rt.alloc();
-    let whole = folder_of(alloc, &TWO_LANES)?;
+    let whole = folder_of(&rt, alloc, &TWO_LANES);
     let names = ["d/index.swi", "d/t.swl", "d/t-0.0.swl"];
-    let mut folder = with_files(alloc, &whole, &names)?;
+    let mut folder = with_files(&rt, alloc, &whole, &names);
     let text = "missing log t-0.1.swl\n";
     answers(&rt, alloc, &mut folder, CHECK, FOLDER_REFUSED, text)
 }
@@ -51,42 +54,45 @@ const OF_TEN: Case<'static> = Case {
 };
 
 // Cuts a file to this length.
-fn cut(alloc: Global, folder: &mut MemFolder, name: &str, length: usize) -> Result<(), Fail> {
-    let mut bytes = folder.file(name).ok_or("a log")?.to_vec(alloc)?;
+fn cut(rt: &impl Abort, alloc: Global, folder: &mut MemFolder, name: &str, length: usize) {
+    let mut bytes = folder
+        .file(name)
+        .expect(rt, "a log")
+        .to_vec(alloc)
+        .expect(rt, "memory");
     bytes.truncate(length);
-    folder.hold(name, &bytes)?;
-    Ok(())
+    folder.hold(name, &bytes).expect(rt, "memory");
 }
 
 #[test]
 fn a_log_that_is_cut_is_named(rt: HostRuntime) -> Result<(), Fail> {
     let alloc = rt.alloc();
-    let mut folder = folder_of(alloc, &OF_TEN)?;
-    cut(alloc, &mut folder, "d/t-0.1.swl", 162)?;
+    let mut folder = folder_of(&rt, alloc, &OF_TEN);
+    cut(&rt, alloc, &mut folder, "d/t-0.1.swl", 162);
     let text = "bad log t-0.1.swl record 7: Cut\n";
     answers(&rt, alloc, &mut folder, CHECK, FOLDER_REFUSED, text)
 }
 
 // The records of a lane with so many segments.
-fn segments(alloc: Global, count: u32) -> Result<Vec<Rec>, AllocError> {
+fn segments(rt: &impl Abort, alloc: Global, count: u32) -> Vec<Rec> {
     let mut records = Vec::new(alloc);
     for _ in 0..count {
-        records.push(store!(2, 4096))?;
-        records.push(BARRIER)?;
+        records.push(store!(2, 4096)).expect(rt, "memory");
+        records.push(BARRIER).expect(rt, "memory");
     }
-    records.push(END)?;
-    Ok(records)
+    records.push(END).expect(rt, "memory");
+    records
 }
 
 #[test]
 fn a_segment_too_many_is_named(rt: HostRuntime) -> Result<(), Fail> {
     let alloc = rt.alloc();
-    let records = segments(alloc, 65_537)?;
+    let records = segments(&rt, alloc, 65_537);
     let lane = Case {
         tasks: &[(&[], &[region!(1, 1), END]), (&[(0, 0, 1)], &records)],
         ..EMPTY
     };
-    let mut folder = folder_of(alloc, &lane)?;
+    let mut folder = folder_of(&rt, alloc, &lane);
     let text = "too many segments at t-0.0.swl record 131073\n";
     answers(&rt, alloc, &mut folder, CHECK, FOLDER_REFUSED, text)
 }

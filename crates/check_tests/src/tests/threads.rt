@@ -5,7 +5,6 @@ use call_fixtures::printed;
 use command_answer::{DONE, KERNEL_STOPPED};
 use memory_environment::MemFolder;
 use std::alloc::Global;
-use std::test::Fail;
 use std::thread;
 
 // How many threads this process has.
@@ -44,15 +43,14 @@ fn are_left(rt: HostRuntime, alloc: Global, most: u64) -> bool {
 }
 
 #[test]
-fn no_thread_of_a_run_is_left(rt: HostRuntime) -> Result<(), Fail> {
+fn no_thread_of_a_run_is_left(rt: HostRuntime) {
     let alloc = rt.alloc();
     let before = threads(rt, alloc);
     for (name, kernel, due) in RUNS {
-        let mut folder = MemFolder::new(alloc)?;
-        folder.hold("k", kernel.as_bytes())?;
-        let (status, _) = printed(&rt, alloc, &mut folder, &[*name, "k", "d", "16384"], &[])?;
+        let mut folder = MemFolder::new(alloc).expect(&rt, "memory");
+        folder.hold("k", kernel.as_bytes()).expect(&rt, "memory");
+        let (status, _) = printed(&rt, alloc, &mut folder, &[*name, "k", "d", "16384"], &[]);
         assert!(rt; status == *due, "{name} {kernel}");
         assert!(rt; are_left(rt, alloc, before), "{name} {kernel}");
     }
-    Ok(())
 }

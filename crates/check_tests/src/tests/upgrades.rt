@@ -1,11 +1,11 @@
 //! Folders of the first format: what `upgrade` prints of them, and what is then in the new folder.
 
-use call_fixtures::{BARRIER, Case, EMPTY, END, ROOT, all_pass, folder_of, holds, printed, store};
+use call_fixtures::{BARRIER, Case, EMPTY, END, ROOT, all_pass, folder_of, printed, store};
 use command_answer::{DONE, FOLDER_REFUSED, INDEX_THERE, RACES};
 use host_environment::HostFolder;
-use memory_environment::MemFolder;
 use std::alloc::Global;
 use std::marker::Send;
+use std::process::Abort;
 use std::sync::Wait;
 use std::test::Fail;
 use std::thread::Threads;
@@ -202,14 +202,13 @@ fn a_folder_that_is_bad_by_the_first_format_is_not_brought_over(
 type Host = HostFolder<HostRuntime>;
 
 // Makes real files, below this folder, of the logs and the index of the run that was counted.
-fn put_files(alloc: Global, folder: &mut Host, top: &str) -> Result<(), Fail> {
-    let files: MemFolder = folder_of(alloc, &COUNTED)?;
+fn put_files(rt: &impl Abort, alloc: Global, folder: &mut Host, top: &str) {
+    let files = folder_of(rt, alloc, &COUNTED);
     for name in ["d/index.swi", "d/t.swl", "d/t-0.0.swl", "d/t-0.1.swl"] {
-        let bytes = files.file(name).ok_or("a file")?;
-        let path = format!(in alloc; "{top}/{name}")?;
-        holds(folder.put(alloc, &path, bytes).is_ok(), name)?;
+        let bytes = files.file(name).expect(rt, "a file");
+        let path = format!(in alloc; "{top}/{name}").expect(rt, "memory");
+        folder.put(alloc, &path, bytes).expect(rt, name);
     }
-    Ok(())
 }
 
 // What is asked of the folders below one, the last of which isn't there yet.
@@ -228,65 +227,38 @@ const ASKED: &[(&str, &str, &str, u8, &str)] = &[
     ),
 ];
 
-// Fails where these words come to another status or text.
-fn is_answered<'a, R: Threads + Wait + Sync + Copy + Send + 'static>(
-    rt: &R,
-    alloc: Global,
-    folder: &mut Host,
-    words: (&'a str, &'a str, &'a str),
-    status: u8,
-    text: &str,
-) -> Result<(), Fail> {
-    let (command, dir, last) = words;
-    let (answered, out) = printed(rt, alloc, folder, &[command, dir, last], &[])?;
-    holds(
-        answered == status && out.written() == text.as_bytes(),
-        "what real files answer",
-    )
-}
-
-// Fails where real files below this folder are answered otherwise.
-fn real_files_answer<R: Threads + Wait + Sync + Copy + Send + 'static>(
+// Aborts where real files below this folder are answered otherwise.
+fn real_files_answer<R: Abort + Threads + Wait + Sync + Copy + Send + 'static>(
     rt: &R,
     alloc: Global,
     folder: &mut Host,
     top: &str,
-) -> Result<(), Fail> {
+) {
     for (command, dir, last, status, text) in ASKED {
-        let dir = format!(in alloc; "{top}/{dir}")?;
-        let new = format!(in alloc; "{top}/{last}")?;
-        if *command == "check" {
-            is_answered(
-                rt,
-                alloc,
-                folder,
-                (*command, dir.as_str(), *last),
-                *status,
-                *text,
-            )?;
+        let dir = format!(in alloc; "{top}/{dir}").expect(rt, "memory");
+        let new = format!(in alloc; "{top}/{last}").expect(rt, "memory");
+        let last = if *command == "check" {
+            *last
         } else {
-            is_answered(
-                rt,
-                alloc,
-                folder,
-                (*command, dir.as_str(), new.as_str()),
-                *status,
-                *text,
-            )?;
-        }
+            new.as_str()
+        };
+        let (answered, out) = printed(rt, alloc, folder, &[*command, dir.as_str(), last], &[]);
+        assert!(rt;
+            answered == *status && out.written() == text.as_bytes(),
+            "{command} {dir}"
+        );
     }
-    Ok(())
 }
 
 #[test]
-fn real_files_are_brought_over(rt: HostRuntime) -> Result<(), Fail> {
+fn real_files_are_brought_over(rt: HostRuntime) {
     let alloc = rt.alloc();
-    let base = env::temp_dir(&rt)?;
-    let base = base.to_str().ok_or("a path")?;
-    let top = format!(in alloc; "{base}/sword-upgrades-{}", process::id(rt.process()))?;
+    let base = env::temp_dir(&rt).expect(&rt, "a folder");
+    let base = base.to_str().expect(&rt, "a path");
+    let id = process::id(rt.process());
+    let top = format!(in alloc; "{base}/sword-upgrades-{id}").expect(&rt, "memory");
     let mut folder = HostFolder::new(rt);
-    put_files(alloc, &mut folder, &top)?;
-    real_files_answer(&rt, alloc, &mut folder, &top)?;
-    fs::remove_dir_all(&rt, &top)?;
-    Ok(())
+    put_files(&rt, alloc, &mut folder, &top);
+    real_files_answer(&rt, alloc, &mut folder, &top);
+    fs::remove_dir_all(&rt, &top).expect(&rt, "no folder");
 }

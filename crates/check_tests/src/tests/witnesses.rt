@@ -129,7 +129,7 @@ fn records_are_named_and_confirmed(rt: HostRuntime) -> Result<(), Fail> {
 #[test]
 fn a_bad_folder_has_no_witness(rt: HostRuntime) -> Result<(), Fail> {
     let alloc = rt.alloc();
-    let mut folder = MemFolder::new(alloc)?;
+    let mut folder = MemFolder::new(alloc).expect(&rt, "memory");
     let explain: &[&str] = &["explain", "d", "1", "2"];
     let confirm: &[&str] = &["confirm", "d", "1", "1", "2", "1"];
     let text = "no index\n";

@@ -8,6 +8,7 @@ use command_answer::{DIFFERS, DONE, FOLDER_REFUSED, KERNEL_REFUSED, USAGE};
 use memory_environment::MemFolder;
 use std::alloc::Global;
 use std::marker::Send;
+use std::process::Abort;
 use std::sync::Wait;
 use std::test::Fail;
 use std::thread::Threads;
@@ -68,7 +69,7 @@ const FIELDS: &[Field<'static>] = &[
 ];
 
 // Fails where the run of the folder's kernel isn't the same, or is told otherwise once this field is another.
-fn differs_at<R: Threads + Wait + Sync + Copy + Send + 'static>(
+fn differs_at<R: Abort + Threads + Wait + Sync + Copy + Send + 'static>(
     rt: &R,
     alloc: Global,
     folder: &mut MemFolder,
@@ -83,7 +84,7 @@ fn differs_at<R: Threads + Wait + Sync + Copy + Send + 'static>(
 #[test]
 fn a_run_is_the_same_until_a_field_is_another(rt: HostRuntime) -> Result<(), Fail> {
     for field in FIELDS {
-        let mut folder = folder_of(rt.alloc(), &COUNTING)?;
+        let mut folder = folder_of(&rt, rt.alloc(), &COUNTING);
         differs_at(&rt, rt.alloc(), &mut folder, field)?;
     }
     Ok(())

@@ -9,6 +9,7 @@ use command_answer::{
 use memory_environment::MemFolder;
 use std::alloc::{AllocError, Global};
 use std::marker::Send;
+use std::process::Abort;
 use std::sync::Wait;
 use std::test::Fail;
 use std::thread::{Builder, Threads};
@@ -97,12 +98,12 @@ fn is_cut(whole: &MemFolder, folder: &MemFolder, lengths: &[usize]) -> bool {
 }
 
 /// The folder that a case leaves, which passes.
-pub fn left_by<R: Threads + Wait + Sync + Copy + Send + 'static>(
+pub fn left_by<R: Abort + Threads + Wait + Sync + Copy + Send + 'static>(
     rt: &R,
     alloc: Global,
     case: &Case<'_>,
 ) -> Result<MemFolder, Fail> {
-    let mut folder = folder_of(alloc, case)?;
+    let mut folder = folder_of(rt, alloc, case);
     passes(rt, alloc, &mut folder, case)?;
     Ok(folder)
 }
@@ -342,13 +343,13 @@ fn long_sum(alloc: Global) -> Result<String, AllocError> {
     Ok(kernel)
 }
 
-fn prints_long_sum<R: Threads + Wait + Sync + Copy + Send + 'static>(
+fn prints_long_sum<R: Abort + Threads + Wait + Sync + Copy + Send + 'static>(
     rt: &R,
     alloc: Global,
 ) -> Result<bool, Memory> {
     let mut folder = MemFolder::new(alloc)?;
     folder.hold("k", long_sum(alloc)?.as_bytes())?;
-    let (status, out) = printed(rt, alloc, &mut folder, RUN, &[])?;
+    let (status, out) = printed(rt, alloc, &mut folder, RUN, &[]);
     Ok(status == DONE && out.written() == b"tasks 2\nrecords 5\nsum a 32001\n".as_slice())
 }
 
