@@ -40,9 +40,9 @@ fn spell(rt: &impl Abort, log: &mut Vec<u8>, record: &Rec) {
 }
 
 fn spell_row(rt: &impl Abort, index: &mut Vec<u8>, steps: &[Step], records: &[Rec]) {
-    let span = steps.len().min(255) as u8;
+    let depth = steps.len().min(255) as u8;
     index
-        .extend_from_slice(&[0, 0, 0, span, 0, 0, 0, 0])
+        .extend_from_slice(&[0, 0, 0, depth, 0, 0, 0, 0])
         .expect(rt, "memory");
     for at in 0..4 {
         let (region, lane, span) = *steps.get(at).unwrap_or(&(0, 0, 0));

@@ -1,0 +1,245 @@
+//! Each call on the folder, on the output and on a log fails in turn, in each command.
+
+use crate::tests::fixtures::{
+    BARRIER, Calls, Case, EMPTY, END, REPLAY, ROOT, Rec, SHOW, Task, each_call_may_fail,
+};
+use crate::{region, store};
+use command_answer::{DIFFERS, DONE, FOLDER_REFUSED, KERNEL_STOPPED, RACES};
+
+// No call at all.
+const NONE: Calls<'static> = Calls {
+    case: EMPTY,
+    reads: 0,
+    writes: 0,
+    puts: &[],
+    prints: 1,
+    logs: &[],
+    made: &[],
+};
+
+// With a buffer for four records.
+const BY_FOUR: &[&str] = &["run", "k", "d", "96"];
+
+// Each lane puts ten records, and so a header and three pieces. The root puts a header and one piece, and makes two logs.
+const ENDS: Calls<'static> = Calls {
+    case: Case {
+        held: &[(
+            "k",
+            "array a i64 8\nmain {\nparallel 2 {\nfor i in 0 .. 8 static 1 {\na[i] = a[i] + 1\n}\n}\n}\n",
+        )],
+        asked: &[(BY_FOUR, DONE, "tasks 3\nrecords 22\nsum a 8\n")],
+        ..EMPTY
+    },
+    reads: 3,
+    writes: 5,
+    logs: &[(&[], 4), (&[(0, 0, 2)], 4), (&[(0, 1, 2)], 4)],
+    made: &["d/t.swl", "d/t-0.0.swl", "d/t-0.1.swl", "d/index.swi"],
+    ..NONE
+};
+
+// Both lanes divide by an element, which is 0.
+const STOPS: Calls<'static> = Calls {
+    case: Case {
+        held: &[(
+            "k",
+            "array a i64 4\nmain { parallel 2 {\nfor i in 0 .. 4 { a[i] = 1 / a[i] }\n} }\n",
+        )],
+        asked: &[(
+            BY_FOUR,
+            KERNEL_STOPPED,
+            "stopped t-0.0.swl line 3: DivZero\n",
+        )],
+        left: &[("d/index.swi", None)],
+        ..EMPTY
+    },
+    reads: 3,
+    writes: 4,
+    made: &["d/t.swl", "d/t-0.0.swl", "d/t-0.1.swl"],
+    ..NONE
+};
+
+#[test]
+fn each_call_of_a_run_may_fail(rt: HostRuntime) {
+    each_call_may_fail(&rt, rt.alloc(), &ENDS);
+    each_call_may_fail(&rt, rt.alloc(), &STOPS);
+}
+
+const CHECK: &[&str] = &["check", "d", "2"];
+
+// Lane 1 reads the element that lane 0 writes.
+const TWO_LANES: &[Task<'static>] = &[
+    (&[], ROOT),
+    (&[(0, 0, 2)], &[store!(3, 4128), BARRIER, END]),
+    (&[(0, 1, 2)], &[(1, 8, 3, 4128, 0), BARRIER, END]),
+];
+
+const RACING: Case<'static> = Case {
+    tasks: TWO_LANES,
+    asked: &[(CHECK, RACES, "race 3 3\nraces 1\n")],
+    ..EMPTY
+};
+
+const RACES_FOUND: Calls<'static> = Calls {
+    case: RACING,
+    reads: 15,
+    prints: 2,
+    ..NONE
+};
+
+// Less than a record stands after the header.
+const CUT: Calls<'static> = Calls {
+    case: Case {
+        held: &[("d/t-0.1.swl", "SWLOG002cut")],
+        asked: &[(CHECK, FOLDER_REFUSED, "bad log t-0.1.swl record 1: Cut\n")],
+        ..RACING
+    },
+    reads: 15,
+    ..NONE
+};
+
+#[test]
+fn each_call_of_a_check_may_fail(rt: HostRuntime) {
+    each_call_may_fail(&rt, rt.alloc(), &RACES_FOUND);
+    each_call_may_fail(&rt, rt.alloc(), &CUT);
+}
+
+// Each lane of two forks two, of which each stores a local of the outer lane.
+const NESTED: &str = "array a i64 4
+main {
+let x = 5
+parallel 2 {
+let y = tid + x
+parallel 2 {
+a[tid] = y
+}
+}
+}
+";
+
+const INNER: &[Rec] = &[region!(6, 2), (8, 0, 9, 0, 0)];
+
+// A lane of an inner team, which stores this value at this address.
+macro_rules! storing {
+    ($address:expr, $value:expr) => {
+        &[store!(7, $address, $value), (8, 0, 8, 0, 0)]
+    };
+}
+
+// The run of the nested kernel, whose last lane stores this value.
+macro_rules! nested {
+    ($last:expr, $asked:expr) => {
+        Case {
+            held: &[("k", NESTED)],
+            tasks: &[
+                (&[], &[region!(4, 2), (8, 0, 10, 0, 0)]),
+                (&[(0, 0, 2)], INNER),
+                (&[(0, 0, 2), (0, 0, 2)], storing!(4096, 5)),
+                (&[(0, 0, 2), (0, 1, 2)], storing!(4104, 5)),
+                (&[(0, 1, 2)], INNER),
+                (&[(0, 1, 2), (0, 0, 2)], storing!(4096, 6)),
+                (&[(0, 1, 2), (0, 1, 2)], storing!(4104, $last)),
+            ],
+            asked: $asked,
+            ..EMPTY
+        }
+    };
+}
+
+const SAME: Calls<'static> = Calls {
+    case: nested!(6, &[(REPLAY, DONE, "same\n")]),
+    reads: 40,
+    ..NONE
+};
+
+const DIFFERING: Calls<'static> = Calls {
+    case: nested!(5, &[(REPLAY, DIFFERS, "differs t-0.1-0.1.swl record 1\n")]),
+    reads: 40,
+    ..NONE
+};
+
+#[test]
+fn each_call_of_a_replay_may_fail(rt: HostRuntime) {
+    each_call_may_fail(&rt, rt.alloc(), &SAME);
+    each_call_may_fail(&rt, rt.alloc(), &DIFFERING);
+}
+
+const SHOWN: Calls<'static> = Calls {
+    case: nested!(6, &[(SHOW, DONE, "log t.swl records 2\n...")]),
+    reads: 38,
+    ..NONE
+};
+
+#[test]
+fn each_call_of_a_show_may_fail(rt: HostRuntime) {
+    each_call_may_fail(&rt, rt.alloc(), &SHOWN);
+}
+
+// It makes no call on the folder.
+const GENERATED: Calls<'static> = Calls {
+    case: Case {
+        asked: &[(
+            &["gen", "4", "2"],
+            RACES,
+            "accesses 65\nsegments 16\nrace 30 40\nraces 1\n",
+        )],
+        ..EMPTY
+    },
+    prints: 3,
+    ..NONE
+};
+
+#[test]
+fn each_write_of_a_generated_report_may_fail(rt: HostRuntime) {
+    each_call_may_fail(&rt, rt.alloc(), &GENERATED);
+}
+
+// Between the logs that it puts it reads the next one.
+const BROUGHT: Calls<'static> = Calls {
+    case: Case {
+        old_tasks: TWO_LANES,
+        asked: &[(&["upgrade", "d", "e"], DONE, "upgraded 3\n")],
+        ..EMPTY
+    },
+    reads: 19,
+    writes: 4,
+    puts: &[18, 20, 22, 23],
+    made: &["e/t.swl", "e/t-0.0.swl", "e/t-0.1.swl", "e/index.swi"],
+    ..NONE
+};
+
+#[test]
+fn each_call_of_an_upgrade_may_fail(rt: HostRuntime) {
+    each_call_may_fail(&rt, rt.alloc(), &BROUGHT);
+}
+
+const EXPLAINED: Calls<'static> = Calls {
+    case: Case {
+        asked: &[(
+            &["explain", "d", "3", "3"],
+            RACES,
+            "race row 2 t-0.0.swl record 1 row 3 t-0.1.swl record 1 byte 4128\n",
+        )],
+        ..RACING
+    },
+    reads: 23,
+    ..NONE
+};
+
+const CONFIRMED: Calls<'static> = Calls {
+    case: Case {
+        asked: &[(
+            &["confirm", "d", "2", "1", "3", "1"],
+            RACES,
+            "race byte 4128\n",
+        )],
+        ..RACING
+    },
+    reads: 17,
+    ..NONE
+};
+
+#[test]
+fn each_call_of_a_witness_may_fail(rt: HostRuntime) {
+    each_call_may_fail(&rt, rt.alloc(), &EXPLAINED);
+    each_call_may_fail(&rt, rt.alloc(), &CONFIRMED);
+}
