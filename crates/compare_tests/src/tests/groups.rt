@@ -41,27 +41,17 @@ fn spell(rt: &impl Abort, log: &mut Vec<u8>, record: &Rec) {
 
 fn spell_row(rt: &impl Abort, index: &mut Vec<u8>, steps: &[Step], records: &[Rec]) {
     let depth = steps.len().min(255) as u8;
+    let count = records.len() as u64;
     index
         .extend_from_slice(&[0, 0, 0, depth, 0, 0, 0, 0])
         .expect(rt, "memory");
-    for at in 0..4 {
-        let (region, lane, span) = *steps.get(at).unwrap_or(&(0, 0, 0));
-        index
-            .extend_from_slice(&[0, 0, 0, region, 0, lane, 0, span])
-            .expect(rt, "memory");
+    for place in 0..4 {
+        let step = steps.get(place).copied().unwrap_or((0, 0, 0));
+        let spelled = [0, 0, 0, step.0, 0, step.1, 0, step.2];
+        index.extend_from_slice(&spelled).expect(rt, "memory");
     }
-    index
-        .extend_from_slice(&(records.len() as u64).to_be_bytes())
-        .expect(rt, "memory");
-}
-
-fn log_name(rt: &impl Abort, alloc: Global, steps: &[Step]) -> String {
-    let mut name = String::from_str(alloc, "d/t").expect(rt, "memory");
-    for (region, lane, _) in steps {
-        write!(name, "-{region}.{lane}").expect(rt, "memory");
-    }
-    name.push_str(".swl").expect(rt, "memory");
-    name
+    let spelled = count.to_be_bytes();
+    index.extend_from_slice(&spelled).expect(rt, "memory");
 }
 
 fn log_of(rt: &impl Abort, alloc: Global, records: &[Rec]) -> Vec<u8> {
@@ -77,7 +67,11 @@ fn folder(rt: &impl Abort, alloc: Global, tasks: &[Task<'_>]) -> MemFolder {
     let mut index = Vec::from_slice(alloc, &INDEX_HEADER).expect(rt, "memory");
     for (steps, records) in tasks {
         spell_row(rt, &mut index, steps, records);
-        let name = log_name(rt, alloc, steps);
+        let mut name = String::from_str(alloc, "d/t").expect(rt, "memory");
+        for (region, lane, _) in *steps {
+            write!(name, "-{region}.{lane}").expect(rt, "memory");
+        }
+        name.push_str(".swl").expect(rt, "memory");
         folder
             .hold(&name, &log_of(rt, alloc, records))
             .expect(rt, "memory");
