@@ -195,7 +195,7 @@ fn each_rule_is_told_at_its_row(rt: HostRuntime) {
     for (rows, why) in REFUSED {
         let bytes = spelled(&rt, rt.alloc(), HEADER, rows);
         let refused = refusal(rt.alloc(), &bytes);
-        assert!(rt; refused == bad(rows.len() as u32, why), "{rows:?}");
+        assert!(rt; refused == bad(rows.len().min(9) as u32, why), "{rows:?}");
     }
 }
 
