@@ -225,6 +225,23 @@ const ASKED: &[(&str, &str, &str, u8, &str)] = &[
     ),
 ];
 
+// Aborts where these words come to another status or text.
+fn is_answered<'a, R: Abort + Threads + Wait + Sync + Copy + Send + 'static>(
+    rt: &R,
+    alloc: Global,
+    folder: &mut Host,
+    words: (&'a str, &'a str, &'a str),
+    status: u8,
+    text: &str,
+) {
+    let (command, dir, last) = words;
+    let (answered, out) = printed(rt, alloc, folder, &[command, dir, last], &[]);
+    assert!(rt;
+        answered == status && out.written() == text.as_bytes(),
+        "{command} {dir}"
+    );
+}
+
 // Aborts where real files below this folder are answered otherwise.
 fn real_files_answer<R: Abort + Threads + Wait + Sync + Copy + Send + 'static>(
     rt: &R,
@@ -235,16 +252,13 @@ fn real_files_answer<R: Abort + Threads + Wait + Sync + Copy + Send + 'static>(
     for (command, dir, last, status, text) in ASKED {
         let dir = format!(in alloc; "{top}/{dir}").expect(rt, "memory");
         let new = format!(in alloc; "{top}/{last}").expect(rt, "memory");
-        let last = if *command == "check" {
-            *last
+        if *command == "check" {
+            let words = (*command, dir.as_str(), *last);
+            is_answered(rt, alloc, folder, words, *status, *text);
         } else {
-            new.as_str()
-        };
-        let (answered, out) = printed(rt, alloc, folder, &[*command, dir.as_str(), last], &[]);
-        assert!(rt;
-            answered == *status && out.written() == text.as_bytes(),
-            "{command} {dir}"
-        );
+            let words = (*command, dir.as_str(), new.as_str());
+            is_answered(rt, alloc, folder, words, *status, *text);
+        }
     }
 }
 
