@@ -325,7 +325,17 @@ const SECTIONS: &[Refused<'static>] = &[
         KernelWhy::NotUniform,
     ),
     (
-        b"main { parallel 2 { if 1 { } else {\nfor tid2 in tid .. 1 { } } } }",
+        b"main { parallel 2 { if 1 { } else {\nfor tid2 in\ntid .. 1 { } } } }",
+        2,
+        KernelWhy::NotUniform,
+    ),
+    (
+        b"main { parallel 2 { if 1 {\nbarrier } } }",
+        2,
+        KernelWhy::NotUniform,
+    ),
+    (
+        b"main { parallel 2 { if 1 { } else {\nbarrier } } }",
         2,
         KernelWhy::NotUniform,
     ),
@@ -599,8 +609,45 @@ type Closed<'a> = (
 
 const OPEN: &[Closed<'static>] = &[
     (b"main {", b"if 1 {", 31, b"", b"}", 32, b""),
+    (
+        b"main {",
+        b"if 1 {",
+        30,
+        b"if 1 { } else { }",
+        b"}",
+        31,
+        b"",
+    ),
     (b"main { let x = ", b"-", 32, b"1 ", b"", 0, b"}"),
     (b"main { let x = ", b"(", 32, b"1", b")", 32, b" }"),
+    // the index of an element is in its expression, and that of a target is one of its own
+    (
+        b"array a i8 1 main { let x = ",
+        b"a[",
+        32,
+        b"0",
+        b"]",
+        32,
+        b" }",
+    ),
+    (
+        b"array a i8 1 main { a[",
+        b"(",
+        32,
+        b"0",
+        b")",
+        32,
+        b"] = 1 }",
+    ),
+    (
+        b"array a i8 1 main { atomic a[",
+        b"(",
+        32,
+        b"0",
+        b")",
+        32,
+        b"] += 1 }",
+    ),
 ];
 
 fn is_closed_read(alloc: Global, text: &Closed<'_>) -> Result<bool, AllocError> {
@@ -617,6 +664,13 @@ const TOO_DEEP: &[Long<'static>] = &[
         b"\n(",
         33,
         b"1",
+        Some((34, KernelWhy::Deep)),
+    ),
+    (
+        b"array a i8 1 main { let x = ",
+        b"\na[",
+        33,
+        b"0",
         Some((34, KernelWhy::Deep)),
     ),
 ];

@@ -1,7 +1,7 @@
 //! Parse trees of kernels.
 
 use super::repeating::repeated;
-use kernel_parser::{Declaration, KernelTree, ScheduleTree, Statement, Tree, parse};
+use kernel_parser::{Block, Declaration, KernelTree, Range, ScheduleTree, Statement, Tree, parse};
 use kernel_syntax::Op;
 use kernel_text::tokens;
 use std::alloc::Global;
@@ -83,36 +83,181 @@ fn are_declarations(declarations: &[Declaration]) -> bool {
     )
 }
 
-fn is_loop(stmts: &[Statement]) -> bool {
-    match stmts {
-        [
-            Statement::For {
-                line: 9,
-                range,
-                schedule: ScheduleTree::StaticBy {
-                    line: 15,
-                    number_line: 16,
-                    chunk: 2,
-                },
-                nowait: Some(17),
-                body,
-            },
-        ] => {
-            (range.name_line, range.in_line, range.dots) == (10, 11, 13)
-                && (body.opened, body.closed) == (18, 19)
+// The line is the next one, with which it goes on.
+fn is_next(at: &mut u32, line: u32) -> bool {
+    *at = at.wrapping_add(1);
+    *at == line
+}
+
+fn are_next(at: &mut u32, lines: &[u32]) -> bool {
+    lines.iter().all(|line| is_next(at, *line))
+}
+
+// Each token of the expression is on the next line.
+fn is_expression(at: &mut u32, tree: &Tree) -> bool {
+    match tree {
+        Tree::Number { line, .. }
+        | Tree::Name { line, .. }
+        | Tree::Tid { line }
+        | Tree::Span { line } => is_next(at, *line),
+        Tree::Element {
+            line,
+            opened,
+            index,
+            closed,
+            ..
+        } => are_next(at, &[*line, *opened]) && is_expression(at, index) && is_next(at, *closed),
+        Tree::Group {
+            opened,
+            inside,
+            closed,
+        } => is_next(at, *opened) && is_expression(at, inside) && is_next(at, *closed),
+        Tree::Minus { line, operand } => is_next(at, *line) && is_expression(at, operand),
+        Tree::Binary {
+            left,
+            line,
+            right,
+            ..
+        } => is_expression(at, left) && is_next(at, *line) && is_expression(at, right),
+    }
+}
+
+// An empty block.
+fn is_block(at: &mut u32, block: &Block) -> bool {
+    block.stmts.is_empty() && are_next(at, &[block.opened, block.closed])
+}
+
+fn is_range(at: &mut u32, range: &Range) -> bool {
+    are_next(at, &[range.name_line, range.in_line])
+        && is_expression(at, &range.from)
+        && is_next(at, range.dots)
+        && is_expression(at, &range.to)
+}
+
+fn is_schedule(at: &mut u32, schedule: &ScheduleTree) -> bool {
+    match schedule {
+        ScheduleTree::Unsaid => true,
+        ScheduleTree::Static { line } | ScheduleTree::Dynamic { line } => is_next(at, *line),
+        ScheduleTree::StaticBy {
+            line,
+            number_line,
+            ..
         }
-        _ => false,
+        | ScheduleTree::DynamicBy {
+            line,
+            number_line,
+            ..
+        } => are_next(at, &[*line, *number_line]),
+    }
+}
+
+// Each token of the statement is on the next line, and its blocks are empty.
+fn is_statement(at: &mut u32, stmt: &Statement) -> bool {
+    match stmt {
+        Statement::Let {
+            line,
+            name_line,
+            sign_line,
+            value,
+            ..
+        } => are_next(at, &[*line, *name_line, *sign_line]) && is_expression(at, value),
+        Statement::Assign {
+            line,
+            sign_line,
+            value,
+            ..
+        } => are_next(at, &[*line, *sign_line]) && is_expression(at, value),
+        Statement::Store {
+            line,
+            opened,
+            index,
+            closed,
+            sign_line,
+            value,
+            ..
+        } => {
+            are_next(at, &[*line, *opened])
+                && is_expression(at, index)
+                && are_next(at, &[*closed, *sign_line])
+                && is_expression(at, value)
+        }
+        Statement::Update {
+            line,
+            name_line,
+            opened,
+            index,
+            closed,
+            sign_line,
+            value,
+            ..
+        } => {
+            are_next(at, &[*line, *name_line, *opened])
+                && is_expression(at, index)
+                && are_next(at, &[*closed, *sign_line])
+                && is_expression(at, value)
+        }
+        Statement::If { line, test, yes } => {
+            is_next(at, *line) && is_expression(at, test) && is_block(at, yes)
+        }
+        Statement::IfElse {
+            line,
+            test,
+            yes,
+            else_line,
+            no,
+        } => {
+            is_next(at, *line)
+                && is_expression(at, test)
+                && is_block(at, yes)
+                && is_next(at, *else_line)
+                && is_block(at, no)
+        }
+        Statement::Loop { line, range, body } => {
+            is_next(at, *line) && is_range(at, range) && is_block(at, body)
+        }
+        Statement::Parallel {
+            line,
+            number_line,
+            body,
+            ..
+        } => are_next(at, &[*line, *number_line]) && is_block(at, body),
+        Statement::For {
+            line,
+            range,
+            schedule,
+            nowait,
+            body,
+        } => {
+            is_next(at, *line)
+                && is_range(at, range)
+                && is_schedule(at, schedule)
+                && nowait.iter().all(|line| is_next(at, *line))
+                && is_block(at, body)
+        }
+        Statement::Barrier { line } => is_next(at, *line),
+        Statement::Critical { line, body } => is_next(at, *line) && is_block(at, body),
+        Statement::CriticalOf {
+            line,
+            name_line,
+            body,
+            ..
+        } => are_next(at, &[*line, *name_line]) && is_block(at, body),
     }
 }
 
 #[test]
 fn each_token_keeps_its_line(rt: HostRuntime) -> Result<(), Fail> {
-    let text =
-        b"array\na\ni64\n8\nmutex\nm\nmain\n{\nfor\ni\nin\n0\n..\n4\nstatic\n2\nnowait\n{\n}\n}";
+    let text = b"array\na\ni64\n8\nmutex\nm\nmain\n{\n\
+        let\nx\n=\n-\na\n[\n(\n1\n+\n2\n)\n]\nx\n=\ntid\na\n[\n0\n]\n=\n1\natomic\na\n[\n1\n]\n-=\n2\n\
+        if\n1\n{\n}\nelse\n{\n}\nif\n2\n{\n}\nloop\ni\nin\n0\n..\n1\n{\n}\nparallel\n2\n{\n}\n\
+        for\nj\nin\n0\n..\n4\nstatic\n2\nnowait\n{\n}\nbarrier\ncritical\n{\n}\ncritical\nm\n{\n}\n}";
     let tree = parsed(rt.alloc(), text).ok_or("tree")?;
-    assert_eq!(rt; (tree.line, tree.body.opened, tree.body.closed), (7, 8, 20));
-    assert!(rt; are_declarations(&tree.declarations));
-    assert!(rt; is_loop(&tree.body.stmts));
+    assert!(rt; are_declarations(&tree.declarations) && (tree.line, tree.body.opened) == (7, 8));
+    let mut at = 8;
+    for stmt in &tree.body.stmts {
+        assert!(rt; is_statement(&mut at, stmt), "behind line {at}");
+    }
+    assert!(rt; tree.body.stmts.len() == 12 && is_next(&mut at, tree.body.closed));
     Ok(())
 }
 

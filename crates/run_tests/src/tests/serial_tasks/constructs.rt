@@ -76,6 +76,15 @@ parallel 2 {
 critical { a[i] = 1 } } } } } }",
         Some(6),
     ),
+    // A critical section comes before what it holds.
+    (
+        "array a i64 8
+mutex m
+main { parallel 1 {
+critical {
+critical m { a[0] = 1 } } } }",
+        Some(4),
+    ),
     // What follows an if, a barrier and a region is looked at, too.
     (
         "array a i64 8
