@@ -2,6 +2,7 @@
 
 mod files;
 mod kernels;
+mod levels;
 mod repeating;
 mod tokens;
 mod trees;

@@ -16,7 +16,7 @@ const LOCKED: &[u8] =
 const HEAT: &[u8] =
     b"# heat\narray u i64 64\narray v i64 64\nmain {\nu[0] = 1000\nparallel 4 {\nloop t in 0 .. 3 {\nfor i in 1 .. 63 {\nv[i] = (u[i-1] + 2 * u[i] + u[i+1]) / 4\n}\nfor i in 1 .. 63 {\nu[i] = v[i]\n}\n}\n}\n}";
 
-fn is_read(alloc: Global, text: &[u8]) -> bool {
+pub fn is_read(alloc: Global, text: &[u8]) -> bool {
     read_kernel(alloc, text).is_ok()
 }
 
@@ -594,93 +594,6 @@ const NO_KERNELS: &[Refused<'static>] = &[
 #[test]
 fn a_text_that_is_no_kernel_tells_its_line_and_why(rt: HostRuntime) -> Result<(), Fail> {
     are_refused(rt.alloc(), NO_KERNELS)
-}
-
-// A text, so many times another one, a third, and so many times a fourth, and a fifth.
-type Closed<'a> = (
-    &'a [u8],
-    &'a [u8],
-    usize,
-    &'a [u8],
-    &'a [u8],
-    usize,
-    &'a [u8],
-);
-
-const OPEN: &[Closed<'static>] = &[
-    (b"main {", b"if 1 {", 31, b"", b"}", 32, b""),
-    (
-        b"main {",
-        b"if 1 {",
-        30,
-        b"if 1 { } else { }",
-        b"}",
-        31,
-        b"",
-    ),
-    (b"main { let x = ", b"-", 32, b"1 ", b"", 0, b"}"),
-    (b"main { let x = ", b"(", 32, b"1", b")", 32, b" }"),
-    // the index of an element is in its expression, and that of a target is one of its own
-    (
-        b"array a i8 1 main { let x = ",
-        b"a[",
-        32,
-        b"0",
-        b"]",
-        32,
-        b" }",
-    ),
-    (
-        b"array a i8 1 main { a[",
-        b"(",
-        32,
-        b"0",
-        b")",
-        32,
-        b"] = 1 }",
-    ),
-    (
-        b"array a i8 1 main { atomic a[",
-        b"(",
-        32,
-        b"0",
-        b")",
-        32,
-        b"] += 1 }",
-    ),
-];
-
-fn is_closed_read(alloc: Global, text: &Closed<'_>) -> Result<bool, AllocError> {
-    let (before, opening, count, between, closing, closed, behind) = text;
-    let opened = repeated(alloc, before, opening, *count, between)?;
-    let bytes = repeated(alloc, &opened, closing, *closed, behind)?;
-    Ok(is_read(alloc, &bytes))
-}
-
-const TOO_DEEP: &[Long<'static>] = &[
-    (b"main {", b"if 1\n{", 32, b"", Some((33, KernelWhy::Deep))),
-    (
-        b"main { let x = ",
-        b"\n(",
-        33,
-        b"1",
-        Some((34, KernelWhy::Deep)),
-    ),
-    (
-        b"array a i8 1 main { let x = ",
-        b"\na[",
-        33,
-        b"0",
-        Some((34, KernelWhy::Deep)),
-    ),
-];
-
-#[test]
-fn at_most_32_levels_are_open(rt: HostRuntime) -> Result<(), Fail> {
-    for text in OPEN {
-        assert!(rt; is_closed_read(rt.alloc(), text)?);
-    }
-    are_told(rt.alloc(), TOO_DEEP)
 }
 
 const LONG: &[Long<'static>] = &[
