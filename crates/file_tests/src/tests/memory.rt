@@ -25,13 +25,15 @@ fn a_log_is_named_after_its_steps(rt: HostRuntime) {
     let alloc = rt.alloc();
     let lane = Path::root().child(0, 1, 2);
     let deep = lane.child(4294967295, 65535, 65535);
+    let alone = Path::root().child(3, 0, 1);
     let named = [
         is_named(Path::root().name(alloc, "d"), "d/t.swl"),
         is_named(lane.name(alloc, "d"), "d/t-0.1.swl"),
         is_named(deep.bare_name(alloc), "t-0.1-4294967295.65535.swl"),
+        is_named(alone.bare_name(alloc), "t-3.0.swl"),
         is_named(index_name(alloc, "d"), "d/index.swi"),
     ];
-    assert!(rt; named == [true; 4], "{named:?}");
+    assert!(rt; named == [true; 5], "{named:?}");
     assert!(rt; LOG_HEADER == *b"SWLOG002" && INDEX_HEADER == *b"SWIDX002");
     assert!(rt; OLD_LOG_HEADER == *b"SWLOG001" && OLD_INDEX_HEADER == *b"SWIDX001");
 }

@@ -124,14 +124,15 @@ fn fails<F: Folder>(
 fn a_read_that_fails_loses_nothing(rt: HostRuntime) {
     let alloc = rt.alloc();
     let mut folder = folder_of(alloc, "name", b"abcdefgh").expect(&rt, "memory");
-    folder.fail(&[2]).expect(&rt, "memory");
+    folder.fail(&[2, 3]).expect(&rt, "memory");
     let mut window = Window::new(alloc, 3).expect(&rt, "memory");
     let told = [
         fails(alloc, &mut window, &mut folder, 7, b"abc"),
         skips(&mut window, 1),
+        fails(alloc, &mut window, &mut folder, 7, b"bc"),
         shows(alloc, &mut window, &mut folder, "name", 7, b"bcdefgh"),
     ];
-    assert!(rt; told == [true; 3], "{told:?}");
+    assert!(rt; told == [true; 4], "{told:?}");
 }
 
 // Whether a file of these bytes begins with the header, and how many bytes are ahead then.
