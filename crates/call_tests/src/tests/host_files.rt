@@ -189,6 +189,21 @@ fn what_can_not_be_written_is_a_fault(rt: HostRuntime) -> Result<(), Fail> {
     Ok(())
 }
 
+#[test]
+fn a_sealed_log_tells_its_fault(rt: HostRuntime) -> Result<(), Fail> {
+    let alloc = rt.alloc();
+    let dir = fresh(&rt, "sealed")?;
+    let name = format!(in alloc; "{dir}/t.swl").expect(&rt, "memory");
+    let mut folder = HostFolder::new(rt);
+    let mut root = folder.root(alloc, &dir).expect(&rt, "a log");
+    fs::remove_file(&rt, &name).expect(&rt, "no file");
+    fs::create_dir(&rt, &name).expect(&rt, "a folder");
+    assert!(rt; root.append(alloc, b"bytes") == Err(Trouble::Failed));
+    assert!(rt; folder.seal(alloc, root).is_ok() && folder.faults() == (0, 1));
+    fs::remove_dir_all(&rt, &dir).expect(&rt, "no folder");
+    Ok(())
+}
+
 // A writer that takes three bytes a call, and writes them at a flush.
 #[derive(Drop)]
 struct Late {

@@ -71,7 +71,8 @@ fn updates_of_64_lanes_lose_nothing(rt: HostRuntime) {
     all_pass(&rt, rt.alloc(), MANY);
 }
 
-// A plain write beside an update; updates in critical sections, in a loop whose chunks are drawn, and in a region inside another.
+// A plain write beside an update; updates in critical sections, in a loop whose chunks are drawn, and in a region inside another; a
+// negative amount that is taken away.
 const PLACES: &[Case<'static>] = &[
     racing!(
         "array s i64 2\nmain { parallel 2 {\nif tid == 0 { atomic s[1] += 5 }\nif tid == 1 { s[1] = 5 }\n} }\n",
@@ -89,6 +90,10 @@ const PLACES: &[Case<'static>] = &[
     apart!(
         "array s i16 1 main { parallel 2 { parallel 3 { atomic s[0] -= 7 } atomic s[0] += 1 } }",
         "tasks 9\nrecords 20\nsum s -40\n"
+    ),
+    apart!(
+        "array s i64 1 main { parallel 2 { atomic s[0] -= -7 } }",
+        "tasks 3\nrecords 6\nsum s 14\n"
     ),
 ];
 
