@@ -190,15 +190,16 @@ fn what_can_not_be_written_is_a_fault(rt: HostRuntime) -> Result<(), Fail> {
 }
 
 #[test]
-fn a_sealed_log_tells_its_fault(rt: HostRuntime) -> Result<(), Fail> {
+fn a_log_that_can_not_be_made_is_a_fault_of_the_one_above(rt: HostRuntime) -> Result<(), Fail> {
     let alloc = rt.alloc();
-    let dir = fresh(&rt, "sealed")?;
-    let name = format!(in alloc; "{dir}/t.swl").expect(&rt, "memory");
+    let dir = fresh(&rt, "children")?;
+    let name = format!(in alloc; "{dir}/t-3.1.swl").expect(&rt, "memory");
     let mut folder = HostFolder::new(rt);
     let mut root = folder.root(alloc, &dir).expect(&rt, "a log");
-    fs::remove_file(&rt, &name).expect(&rt, "no file");
     fs::create_dir(&rt, &name).expect(&rt, "a folder");
-    assert!(rt; root.append(alloc, b"bytes") == Err(Trouble::Failed));
+    assert!(rt; root.child(alloc, 3, 1, 2).is_err());
+    assert!(rt; folder.faults() == (0, 0));
+    // The folder counts the fault of a log that is sealed.
     assert!(rt; folder.seal(alloc, root).is_ok() && folder.faults() == (0, 1));
     fs::remove_dir_all(&rt, &dir).expect(&rt, "no folder");
     Ok(())

@@ -316,13 +316,21 @@ fn other_kernels_are_refused(rt: HostRuntime) {
 }
 
 // A write that fails has put the first half of its text.
-const NO_TEXT: &[Case<'static>] = &[Case {
-    held: &[("k", "no kernel")],
-    failing: &[1],
-    asked: &[(RUN, WRITE_FAULT, "kernel line")],
-    left: &[(INDEX, None)],
-    ..EMPTY
-}];
+const NO_TEXT: &[Case<'static>] = &[
+    Case {
+        held: &[("k", "no kernel")],
+        failing: &[1],
+        asked: &[(RUN, WRITE_FAULT, "kernel line")],
+        left: &[(INDEX, None)],
+        ..EMPTY
+    },
+    Case {
+        failing: &[1],
+        asked: &[(RUN, WRITE_FAULT, "no ke")],
+        left: &[(INDEX, None)],
+        ..EMPTY
+    },
+];
 
 #[test]
 fn the_text_of_a_refused_kernel_may_fail(rt: HostRuntime) {

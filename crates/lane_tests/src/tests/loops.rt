@@ -149,6 +149,16 @@ fn a_lane_that_is_alone_draws_all_chunks(rt: HostRuntime) {
     ];
     let chunks = Schedule::Dynamic(2);
     assert!(rt; goes_round(&rt, rt.alloc(), &lane_over(8, 0), 3, chunks, &records) == Ok(true));
+    // The last chunk is whole.
+    let records = [
+        drawn(0, 1),
+        accessed(Kind::Read, 8, 0, 0),
+        accessed(Kind::Write, 8, 0, 5),
+        accessed(Kind::Read, 8, 0, 5),
+        accessed(Kind::Write, 8, 1, 10),
+        drawn(1, 1),
+    ];
+    assert!(rt; goes_round(&rt, rt.alloc(), &lane_over(8, 0), 2, chunks, &records) == Ok(true));
 }
 
 #[test]
