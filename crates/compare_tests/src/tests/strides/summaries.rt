@@ -216,7 +216,8 @@ fn keys_that_take_turns_have_strided_runs_of_their_own(rt: HostRuntime) {
 // All of an access but its address: whether it writes, and in one step with a read, its size, site, line and mutexes.
 type Key<'a> = (bool, bool, u8, u16, u32, &'a [u16]);
 
-const KEYS: [Key<'static>; 9] = [
+// Nine keys. Behind the one that comes twice the other one is looked for first.
+const KEYS: [Key<'static>; 10] = [
     (true, false, 8, 0, 1, &[]),
     (false, false, 8, 0, 1, &[]),
     (true, true, 8, 0, 1, &[]),
@@ -225,6 +226,7 @@ const KEYS: [Key<'static>; 9] = [
     (true, false, 8, 0, 2, &[]),
     (true, false, 8, 0, 1, &[3]),
     (true, false, 8, 0, 1, &[3, 4]),
+    (true, false, 8, 0, 1, &[3]),
     (true, false, 8, 0, 1, &[4, 3]),
 ];
 
