@@ -213,6 +213,24 @@ fn keys_that_take_turns_have_strided_runs_of_their_own(rt: HostRuntime) {
     }
 }
 
+// A write of each of so many keys, each behind that of the key before.
+fn writes_in_a_row(rt: &impl Abort, alloc: Global, keys: u32) -> Vec<(u32, u64)> {
+    let mut writes = Vec::new(alloc);
+    for key in 0..keys {
+        writes
+            .push((key, 4096 + u64::from(key) * 16))
+            .expect(rt, "memory");
+    }
+    writes
+}
+
+#[test]
+fn keys_whose_addresses_rise_evenly_have_runs_of_their_own(rt: HostRuntime) {
+    let alloc = rt.alloc();
+    let writes = writes_in_a_row(&rt, alloc, 17_000);
+    assert!(rt; sorted_shapes_of(&rt, alloc, &writes).len() == 17_000);
+}
+
 // All of an access but its address: whether it writes, and in one step with a read, its size, site, line and mutexes.
 type Key<'a> = (bool, bool, u8, u16, u32, &'a [u16]);
 
