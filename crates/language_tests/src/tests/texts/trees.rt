@@ -33,6 +33,7 @@ fn operated(op: Op, left: i64, right: i64) -> i64 {
         Op::Add => left.wrapping_add(right),
         Op::Sub => left.wrapping_sub(right),
         Op::Mul => left.wrapping_mul(right),
+        Op::Div => left.checked_div(right).unwrap_or(0),
         Op::Lt => i64::from(left < right),
         _ => 0,
     }
@@ -49,11 +50,16 @@ fn assigned(alloc: Global, text: &[u8]) -> Option<i64> {
 
 #[test]
 fn operators_group_as_they_bind(rt: HostRuntime) {
-    let rows: [(&[u8], i64); 6] = [
+    let rows: [(&[u8], i64); 7] = [
         (b"main { a = 1 - 2 - 3 }", -4),
         (b"main { a = 2 + 3 * 4 }", 14),
         (b"main { a = 2 * 3 + 4 }", 10),
         (b"main { a = -2 * 3 - -1 }", -5),
+        // A minus binds to the least number, which is its own negative, before it is divided.
+        (
+            b"main { a = -(-9223372036854775807 - 1) / 2 }",
+            -4_611_686_018_427_387_904,
+        ),
         (b"main { a = (2 + 3) * 4 }", 20),
         (b"main { a = 1 + 2 < 2 * 2 }", 1),
     ];
