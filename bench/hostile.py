@@ -124,6 +124,7 @@ def arguments(cases):
     for command, words in whole.items():
         refused(f"{command} with a word too few", [command, *words[:-1]])
         refused(f"{command} with a word too many", [command, *words, "1"])
+        refused(f"{command} with an empty word too many", [command, *words, ""])
         for place, word in enumerate(words):
             bad = ["", "0", "01", "+1", "-1", " 1", "1 ", "1e3", "0x10", "\u0661", "9" * 4096, "18446744073709551617"] if word.isdigit() else ["", "d" * 1025, b"\xff\xfe"]
             if word.isdigit() and place == 1 or command == "gen" or command in ("run", "live") and place == 2:
