@@ -4,8 +4,8 @@
 usage: bug_tests.py CRATE ..
 
 Takes the bodies of bugs/CRATE.json that have a `test`, CRATE::FUNCTION. Each is tried in a copy of the repository, in which the other tests of that crate
-are left out. Nothing is proved, so nothing has to be built before. Prints a line for each: refused, passed, or what else came out. Half a minute to two
-for each, on one processor. Not part of the gate.
+are left out. Nothing is proved, so nothing has to be built before. Prints a line for each: refused, passed, no answer, or what else came out. Half a
+minute to two for each, on one processor. Not part of the gate.
 """
 import concurrent.futures
 import json
@@ -85,6 +85,8 @@ def outcome(crate, bug):
         words = ["rt", "try", "--test", "--seconds", str(SECONDS)]
         ran = subprocess.run(words, cwd=f"{copy}/crates/{tests}", capture_output=True, text=True, errors="replace")
         said = ran.stdout + ran.stderr
+    if "run=no-answer" in said:
+        return f"no answer in {SECONDS} seconds"
     if "test result: FAILED. 0 passed; 1 failed" in said:
         return "refused"
     if "test result: ok. 1 passed" in said:
