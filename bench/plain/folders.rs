@@ -2,7 +2,7 @@
 //! tried one by one, and happens-before is reachability in the graph of its edges. It makes random small folders, damages some of them, and
 //! compares what `check`, `show`, `explain`, `confirm` and `upgrade` of the program print and leave, and their status, with what it finds itself.
 //!
-//!     rustc -O -o /tmp/folders bench/plain/folders.rs
+//!     rustc --edition 2021 -O -o /tmp/folders bench/plain/folders.rs
 //!     /tmp/folders SWORD SEED COUNT          compares so many folders, made in a memory file system, a third of them of the first format
 //!     /tmp/folders SWORD SEED COUNT one      the same with one command a folder, for more folders in the same time
 //!     /tmp/folders WORD DIR ..               answers check, show, explain or confirm itself
