@@ -8,6 +8,7 @@ are left out. Nothing is proved, so nothing has to be built before. Prints a lin
 minute to two for each, on one processor. Not part of the gate.
 """
 import concurrent.futures
+import filecmp
 import json
 import os
 import re
@@ -79,7 +80,10 @@ def outcome(crate, bug):
                 shutil.copytree(source, f"{copy}/{part}", ignore=shutil.ignore_patterns("out"))
             elif os.path.exists(source):
                 shutil.copy(source, copy)
-        change(f"{copy}/crates/{crate}/{bug['file']}", lambda text: text.replace(bug["old"], bug["new"], 1))
+        path = f"{copy}/crates/{crate}/{bug['file']}"
+        change(path, lambda text: text.replace(bug["old"], bug["new"]) if text.count(bug["old"]) == 1 else text)
+        if filecmp.cmp(path, f"{REPOSITORY}/crates/{crate}/{bug['file']}", shallow=False):
+            return "its text doesn't stand once in the file"
         if not leave_alone(f"{copy}/crates/{tests}", name):
             return "there is no such test"
         words = ["rt", "try", "--test", "--seconds", str(SECONDS)]
