@@ -58,7 +58,7 @@ impl File for MemFile {
         ensures kept { OnErr result (left_of self.new ≡ left_of self.old) }
 
         ensures cause { HasCause (faults_of self.old) (faults_of self.new) result }
-        ensures no_fault { OnOk result (faults_of self.new ≡ faults_of self.old) }
+        ensures no_fault { (IsErrOf result Trouble.Failed → ⊥) → faults_of self.new ≡ faults_of self.old }
 
         ensures counts { CountsCall (IsErrOf result Trouble.Failed) (counted_of self.old) (counted_of self.new) }
         ensures no_memory { IsErrOf result Trouble.Memory → ⊥ }

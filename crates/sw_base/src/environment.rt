@@ -102,12 +102,13 @@ pub trait File: Drop + Send + Sized {
         ensures passed { IfOk result (λ count. rest self.new ≡ option_map (drop count) (rest self.old)) }
 
         ensures cause { HasCause (faults self.old) (faults self.new) result }
-        ensures no_fault { OnOk result (faults self.new ≡ faults self.old) };
+        ensures no_fault { (IsErrOf result Trouble.Failed → ⊥) → faults self.new ≡ faults self.old };
 }
 
 /// A map from names to files, in which logs are made and sealed. Calls that only read count their faults by themselves.
 pub trait Folder {
     type Log: Log;
+
     type File: File;
 
     /// The files that the folder holds and the logs that it sealed, where the folder tells them; how often a call that writes
@@ -149,7 +150,7 @@ pub trait Folder {
 
         ensures same { state self.new ≡ state self.old }
         ensures cause { HasCause (read_faults self.old) (read_faults self.new) result }
-        ensures no_fault { OnOk result (read_faults self.new ≡ read_faults self.old) };
+        ensures no_fault { (IsErrOf result Trouble.Failed → ⊥) → read_faults self.new ≡ read_faults self.old };
 
     /// Takes a file back.
     fn close_file(&mut self, file: Self::File)
