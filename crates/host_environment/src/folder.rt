@@ -1,14 +1,15 @@
 //! A folder of real files.
 ghost use Rattle.std.specs.Prelude.{◌≡◌, ◌≤◌, None, length, IfOk};
 
+use crate::file::HostFile;
 use crate::log::HostLog;
-use crate::system::{counted, is_missing, make_empty, put_whole, trouble};
+use crate::system::{counted, is_missing, make_empty, put_whole, size_of, trouble};
 use std::alloc::Global;
 use std::fs;
 use std::fs::File;
 use std::io::{self, Read, Seek, SeekFrom};
 use std::rt::Files;
-use sw_base::{Folder, Path, Trouble};
+use sw_base::{Folder, Path, Trouble, take_faults};
 
 /// Real files, under the names that the calls give.
 #[derive(Drop)]
@@ -30,7 +31,7 @@ impl<R: Files> HostFolder<R> {
         }
     }
 
-    /// How many reads have failed, and how many calls that write: a log's fault counts once the log was given back.
+    /// How many calls that read have failed, and how many that write: a file's or a log's faults count once it was given back.
     pub fn faults(&self) -> (u64, u64)
         ensures { result ≡ (self.now.read_faults, self.now.write_faults) }
     {
@@ -51,16 +52,18 @@ fn make_root<R: Files>(rt: &R, dir: &str, name: &str) -> io::Result<()> {
     make_empty(rt, name)
 }
 
-impl<R: Files + Clone + Drop + Send + 'static> Folder for HostFolder<R> {
+impl<R: Files<File = File> + Clone + Drop + Send + 'static> Folder for HostFolder<R> {
     type Log = HostLog<R>;
+
+    type File = HostFile;
 
     ghost state = { λ folder. record { content = None; write_faults = folder.write_faults; roots = folder.roots } };
 
     ghost read_faults = { λ folder. folder.read_faults };
 
     fn size(&mut self, _alloc: Global, name: &str) -> Result<Option<u64>, Trouble> {
-        match fs::metadata(&self.rt, name) {
-            Ok(about) => Ok(Some(about.len())),
+        match size_of(&self.rt, name) {
+            Ok(size) => Ok(Some(size)),
             Err(error) if is_missing(&error) => Ok(None),
             Err(error) => Err(trouble(error, &mut self.read_faults)),
         }
@@ -80,6 +83,18 @@ impl<R: Files + Clone + Drop + Send + 'static> Folder for HostFolder<R> {
         }
     }
 
+    fn open_file(&mut self, _alloc: Global, name: &str) -> Result<Option<HostFile>, Trouble> {
+        match File::open(&self.rt, name) {
+            Ok(file) => Ok(Some(HostFile::new(file))),
+            Err(error) if is_missing(&error) => Ok(None),
+            Err(error) => Err(trouble(error, &mut self.read_faults)),
+        }
+    }
+
+    fn close_file(&mut self, file: HostFile) {
+        take_faults(&mut self.read_faults, file.faults());
+    }
+
     fn put(&mut self, _alloc: Global, name: &str, bytes: &[u8]) -> Result<(), Trouble> {
         counted(put_whole(&self.rt, name, bytes), &mut self.write_faults)
     }
@@ -91,24 +106,20 @@ impl<R: Files + Clone + Drop + Send + 'static> Folder for HostFolder<R> {
         let rt = self.rt.clone()?;
         let dir = String::from_str(alloc, dir)?;
         match make_root(&rt, dir.as_str(), name.as_str()) {
-            Ok(()) => Ok(HostLog {
-                rt,
-                dir,
-                path,
-                faults: 0,
-            }),
+            Ok(()) => Ok(HostLog::new(rt, dir, path)),
             Err(error) => Err(trouble(error, &mut self.write_faults)),
         }
     }
 
-    fn seal(&mut self, _alloc: Global, log: HostLog<R>) -> Result<(), (Trouble, HostLog<R>)> {
-        self.discard(log);
-        Ok(())
+    fn seal(&mut self, alloc: Global, log: HostLog<R>) -> Result<(), (Trouble, HostLog<R>)> {
+        take_faults(&mut self.write_faults, log.faults());
+        match log.check_end(alloc, &mut self.write_faults) {
+            Ok(()) => Ok(()),
+            Err(trouble) => Err((trouble, log)),
+        }
     }
 
     fn discard(&mut self, log: HostLog<R>) {
-        if log.faults > 0 {
-            self.write_faults = self.write_faults.saturating_add(1);
-        }
+        take_faults(&mut self.write_faults, log.faults());
     }
 }

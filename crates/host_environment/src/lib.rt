@@ -5,12 +5,14 @@
 #![tactic(auto)]
 
 mod arguments;
+mod file;
 mod folder;
 mod log;
 mod out;
 mod system;
 
 pub use arguments::given_arguments;
+pub use file::HostFile;
 pub use folder::HostFolder;
 pub use log::HostLog;
 pub use out::HostOut;

@@ -4,7 +4,7 @@ ghost use Rattle.sw_base.specs.Environment.{Rose, HasCause};
 ghost use Rattle.sw_base.specs.declared.trouble.Trouble.TheVariants as trouble;
 
 use std::fs::{self, File, OpenOptions};
-use std::io::{self, Error, ErrorKind, Write};
+use std::io::{self, Error, ErrorKind, Seek, SeekFrom, Write};
 use std::path::Path;
 use std::rt::Files;
 use sw_base::Trouble;
@@ -70,9 +70,35 @@ pub(crate) fn put_whole<R: Files>(rt: &R, name: &str, bytes: &[u8]) -> io::Resul
     write_whole(&mut file, bytes)
 }
 
-pub(crate) fn append_to<R: Files>(rt: &R, name: &str, piece: &[u8]) -> io::Result<()> {
+// Another end of a file than the one that its log left.
+fn check_end(end: u64, due: u64) -> io::Result<()> {
+    if end == due {
+        Ok(())
+    } else {
+        Err(Error::from(ErrorKind::Other))
+    }
+}
+
+/// Adds the piece to a file that ends here. It is an error if the file ends elsewhere, or is gone: then someone else changed it.
+pub(crate) fn append_at<R: Files>(rt: &R, name: &str, end: u64, piece: &[u8]) -> io::Result<()> {
     let mut file = OpenOptions::new().append(true).open(rt, name)?;
+    check_end(file.seek(SeekFrom::End(0))?, end)?;
     write_whole(&mut file, piece)
+}
+
+/// It is an error if the file doesn't end here.
+pub(crate) fn find_end<R: Files>(rt: &R, name: &str, end: u64) -> io::Result<()> {
+    check_end(size_of(rt, name)?, end)
+}
+
+/// How many bytes a regular file has. It is an error if something else has this name: what can be read of that no size tells.
+pub(crate) fn size_of<R: Files>(rt: &R, name: &str) -> io::Result<u64> {
+    let about = fs::metadata(rt, name)?;
+    if about.is_file() {
+        Ok(about.len())
+    } else {
+        Err(Error::from(ErrorKind::Other))
+    }
 }
 
 /// Makes the file, or empties it.

@@ -8,18 +8,17 @@ use Rattle.std.specs.Str.{bytes_eq}
 use Rattle.std.specs.String.{string_cmp}
 use Rattle.std.specs.declared.alloc.Global.{Global}
 use Rattle.std.specs.declared.string.String.{String}
-use Rattle.sw_base.specs.Environment.{with_file}
-use Rattle.memory_environment.specs.MemFolder.{held_by}
+use Rattle.memory_environment.specs.MemFolder.{held_by, with_list}
 
--- the name that was inserted has the new bytes, and each other name has those from before
-pub held_by-insert : (old new : BTreeMap (String Global) (Vec ℕ Global)) (name : String Global) (bytes : Vec ℕ Global) →
-    Updates string_cmp old new name (Some bytes) → held_by new ≡ with_file (string_bytes name) bytes.items (held_by old)
+-- the name that was inserted has the new list, and each other name has that from before
+pub held_by-insert : {T : Type 0} (old new : BTreeMap (String Global) (Vec T Global)) (name : String Global) (list : Vec T Global) →
+    Updates string_cmp old new name (Some list) → held_by new ≡ with_list (string_bytes name) list.items (held_by old)
 unfolding held_by
-held_by-insert old new name bytes updates = fun_ext (λ other.
-    ap (option_map (λ (v : Vec ℕ Global). v.items)) (btree_map_updates_text (string_bytes name) old new _ updates other)
+held_by-insert {T} old new name list updates = fun_ext (λ other.
+    ap (option_map (λ (v : Vec T Global). v.items)) (btree_map_updates_text (string_bytes name) old new _ updates other)
     ∙ by_test (bytes_eq (string_bytes name) other) (get_by_text old other))
   where
-    by_test : (test : Bool) (before : Option (Vec ℕ Global)) →
-        option_map (λ (v : Vec ℕ Global). v.items) (cond test (Some bytes) before) ≡ cond test (Some bytes.items) (option_map (λ (v : Vec ℕ Global). v.items) before)
+    by_test : (test : Bool) (before : Option (Vec T Global)) →
+        option_map (λ (v : Vec T Global). v.items) (cond test (Some list) before) ≡ cond test (Some list.items) (option_map (λ (v : Vec T Global). v.items) before)
     by_test true before = refl
     by_test false before = refl

@@ -1,4 +1,5 @@
 pub mod InMemory
+pub mod MemFile
 pub mod MemFolder
 pub mod MemLog
 pub mod MemOut

@@ -1,18 +1,23 @@
 -- What is seen of a folder in memory.
-use Rattle.std.specs.Prelude.{◌≡◌, ◌↔◌, ℕ, List, map, Option, Some, Vec, Contains, string_bytes}
+use Rattle.std.specs.Prelude.{◌≡◌, ◌↔◌, if◌then◌else◌, ℕ, List, map, Option, Some, Vec, Contains, string_bytes}
 use Rattle.std.specs.declared.alloc.Global.{Global}
 use Rattle.std.specs.declared.string.String.{String}
 use Rattle.std.specs.BTreeMap.{BTreeMap, get_by_text}
 use Rattle.std.specs.Option.{option_map}
+use Rattle.std.specs.Str.{bytes_eq}
 use Rattle.sw_base.specs.Environment.{Content, Files, FolderState, Sealed, next_count}
 use Rattle.memory_environment.specs.InMemory.{Counted, CountsCall}
 use Rattle.memory_environment.specs.Plans.{Plan, plans_by}
 use Rattle.memory_environment.specs.declared.folder.MemFolder.{MemFolder}
 use Rattle.memory_environment.specs.declared.folder.SealedLog.{SealedLog}
 
--- the bytes under each name of a map
-unfoldable pub held_by : BTreeMap (String Global) (Vec ℕ Global) → Files
-held_by files name = option_map (λ bytes. bytes.items) (get_by_text files name)
+-- the list under each name of a map
+unfoldable pub held_by : {T : Type 0} → BTreeMap (String Global) (Vec T Global) → List ℕ → Option (List T)
+held_by files name = option_map (λ list. list.items) (get_by_text files name)
+
+-- the same with this list under this name
+abbrev pub with_list : {T : Type 0} → List ℕ → List T → (List ℕ → Option (List T)) → List ℕ → Option (List T)
+with_list name list lists = λ other. if bytes_eq name other then Some list else lists other
 
 -- a name, and the lengths of the pieces
 abbrev pub sealed_by : SealedLog → Sealed
@@ -30,11 +35,11 @@ sealed_of folder = map sealed_by folder.sealed.items
 abbrev pub content_of : MemFolder → Option Content
 content_of folder = Some (record { held = held_of folder; sealed = sealed_of folder })
 
--- how often `size` or `read` failed
+-- how often `size`, `read` or `open_file` failed, or a file with faults came back
 abbrev pub read_faults_of : MemFolder → ℕ
 read_faults_of folder = folder.read_faults
 
--- how often another call failed, or a log with faults came back
+-- how often a call that writes failed, or a log with faults came back
 abbrev pub write_faults_of : MemFolder → ℕ
 write_faults_of folder = folder.write_faults
 
@@ -46,7 +51,7 @@ roots_of folder = folder.roots
 abbrev pub state_of : MemFolder → FolderState
 state_of folder = record { content = content_of folder; write_faults = write_faults_of folder; roots = roots_of folder }
 
--- how many calls there were, those of `discard` left out
+-- how many calls there were, those of `discard` and `close_file` left out
 abbrev pub calls_of : MemFolder → ℕ
 calls_of folder = folder.calls.made
 
@@ -54,9 +59,13 @@ calls_of folder = folder.calls.made
 abbrev pub failing_of : MemFolder → List ℕ
 failing_of folder = folder.calls.failing.items
 
--- which calls are to fail on the logs that it makes
-abbrev pub plans_of : MemFolder → List Plan
-plans_of folder = plans_by folder.plans
+-- which calls are to fail on the logs that it makes, and which reads of the files that it opens, by their names
+pub record Planned : Type 0 where
+  pub logs : List Plan
+  pub files : List ℕ → Option (List ℕ)
+
+abbrev pub plans_of : MemFolder → Planned
+plans_of folder = record { logs = plans_by folder.plans; files = held_by folder.file_plans }
 
 -- its calls, with the faults of those that read
 abbrev pub counted_reads : MemFolder → Counted
@@ -73,6 +82,13 @@ pub record IsUncounted (old new : MemFolder) : Type 0 where
   pub roots : roots_of new ≡ roots_of old
   pub calls : calls_of new ≡ calls_of old
   pub same_plans : plans_of new ≡ plans_of old
+
+-- only plans may differ
+pub record IsSame (old new : MemFolder) : Type 0 where
+  pub state : state_of new ≡ state_of old
+  pub reads : read_faults_of new ≡ read_faults_of old
+  pub calls : calls_of new ≡ calls_of old
+  pub failing : failing_of new ≡ failing_of old
 
 -- a call that reads, and whether it failed
 pub record CountsRead (failed : Type 0) (old new : MemFolder) : Type 0 where

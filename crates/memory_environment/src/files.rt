@@ -1,8 +1,8 @@
 //! The files of a folder in memory: a map from names to bytes.
 ghost use Rattle.std.specs.Prelude.{◌≡◌, OnOk, OnErr, drop, length, ◌≤◌};
 ghost use Rattle.std.specs.Option.{option_copied};
-ghost use Rattle.sw_base.specs.Environment.{Reads, with_file};
-ghost use Rattle.memory_environment.specs.MemFolder.{held_by};
+ghost use Rattle.sw_base.specs.Environment.{Reads};
+ghost use Rattle.memory_environment.specs.MemFolder.{held_by, with_list};
 
 use std::alloc::Global;
 use std::collections::BTreeMap;
@@ -11,26 +11,30 @@ use sw_base::Memory;
 /// Names, and the bytes that they hold.
 pub type Held = BTreeMap<String, Vec<u8>>;
 
-/// The bytes that a name holds.
+/// The list that a name holds.
 #[tactic(auto, unfolding(crate::specs::MemFolder::held_by))]
-pub fn find<'a>(files: &'a Held, name: &str) -> Option<&'a [u8]>
+pub fn find<'a, T>(files: &'a BTreeMap<String, Vec<T>>, name: &str) -> Option<&'a [T]>
     ensures { option_copied result ≡ held_by files.now name.now }
 {
     match files.get(name) {
-        Some(bytes) => Some(bytes.as_slice()),
+        Some(list) => Some(list.as_slice()),
         None => None,
     }
 }
 
-/// Makes the name hold the bytes. Where there is no memory all names are as before.
+/// Makes the name hold the list. Where there is no memory all names are as before.
 #[tactic(auto, unfolding(crate::specs::MemFolder::held_by))]
-pub fn store(files: &mut Held, alloc: Global, name: &str, bytes: &[u8]) -> Result<(), Memory>
-    ensures ok { OnOk result (held_by files.new ≡ with_file name.now bytes.now (held_by files.old)) }
+pub fn store<T: Drop>(
+    files: &mut BTreeMap<String, Vec<T>>,
+    alloc: Global,
+    name: &str,
+    list: Vec<T>,
+) -> Result<(), Memory>
+    ensures ok { OnOk result (held_by files.new ≡ with_list name.now list.items (held_by files.old)) }
     ensures err { OnErr result (held_by files.new ≡ held_by files.old) }
 {
     let name = String::from_str(alloc, name)?;
-    let bytes = bytes.to_vec(alloc)?;
-    files.insert(name, bytes)?;
+    files.insert(name, list)?;
     Ok(())
 }
 

@@ -1,20 +1,22 @@
 //! A folder, kept in memory.
-ghost use Rattle.std.specs.Prelude.{◌≡◌, ◌<◌, ◌≤◌, ◌↔◌, [], ◌∷◌, ◌++◌, length, drop, unwrap_or, is_some, IfOk, IfErr, OnOk, OnErr, IsErrOf, IsErrAnd, IsTrue, slice_get};
+ghost use Rattle.std.specs.Prelude.{◌≡◌, ◌<◌, ◌≤◌, ◌↔◌, [], ◌∷◌, ◌++◌, length, drop, unwrap_or, is_some, IfOk, IfErr, IfSome, OnOk, OnErr, IsErrOf, IsErrAnd, IsTrue, Some, slice_get};
 ghost use Rattle.std.specs.Bool.{OnFalse};
 ghost use Rattle.std.specs.Option.{option_copied, option_map};
 ghost use Rattle.sw_base.specs.Environment.{HasCause, LeavesPrefix, Reads, Rose, TakesFaults, WhereTold, empty_text, next_count, no_files, with_file, with_log, with_put};
-ghost use Rattle.memory_environment.specs.MemFolder.{content_of, held_of, sealed_of, read_faults_of, roots_of, state_of, write_faults_of, calls_of, failing_of, plans_of, CountsRead, CountsSeal, CountsWrite, IsUncounted};
+ghost use Rattle.memory_environment.specs.MemFolder.{content_of, held_of, sealed_of, read_faults_of, roots_of, state_of, write_faults_of, calls_of, failing_of, plans_of, CountsRead, CountsSeal, CountsWrite, IsSame, IsUncounted};
+ghost use Rattle.memory_environment.specs.MemFile.{rest_of, faults_of as file_faults_of, calls_of as file_calls_of, failing_of as file_failing_of};
 ghost use Rattle.memory_environment.specs.MemLog.{dir_of, path_of, text_of, faults_of, bytes_of, pieces_of, failing_of as log_failing_of, plans_of as log_plans_of};
 ghost use Rattle.sw_base.specs.Names.{log_name};
 ghost use Rattle.memory_environment.specs.Plans.{FailsAsPlanned};
 
 use crate::calls::Calls;
+use crate::file::MemFile;
 use crate::files::{Held, copy_from, find, store};
 use crate::log::MemLog;
 use crate::plans::Plans;
 use std::alloc::Global;
 use std::collections::BTreeMap;
-use sw_base::{Folder, Memory, Path, Trouble};
+use sw_base::{Folder, Memory, Path, Trouble, take_faults};
 
 /// A log that was sealed: its name, and the lengths of its pieces.
 #[derive(Drop)]
@@ -34,6 +36,7 @@ pub struct MemFolder {
     roots: u64,
     calls: Calls,
     plans: Plans,
+    file_plans: BTreeMap<String, Vec<u64>>,
 }
 
 impl MemFolder {
@@ -47,7 +50,8 @@ impl MemFolder {
         ensures roots { IfOk result (λ folder. roots_of folder ≡ 0) }
         ensures calls { IfOk result (λ folder. calls_of folder ≡ 0) }
         ensures failing { IfOk result (λ folder. failing_of folder ≡ []) }
-        ensures plans { IfOk result (λ folder. plans_of folder ≡ []) }
+        ensures log_plans { IfOk result (λ folder. (plans_of folder).logs ≡ []) }
+        ensures file_plans { IfOk result (λ folder. (plans_of folder).files ≡ no_files) }
     {
         Ok(MemFolder {
             alloc,
@@ -58,10 +62,11 @@ impl MemFolder {
             roots: 0,
             calls: Calls::new(alloc),
             plans: Plans::new(alloc),
+            file_plans: BTreeMap::new(alloc),
         })
     }
 
-    /// Sets the numbers of the calls that are to fail: all calls of `Folder` but `discard` are counted together, from 1.
+    /// Sets the numbers of the calls that are to fail: all calls of `Folder` but `discard` and `close_file` are counted together, from 1.
     /// Where there is no memory nothing changes.
     pub fn fail(&mut self, calls: &[u64]) -> Result<(), Memory>
         ensures ok { OnOk result (failing_of self.new ≡ calls.now) }
@@ -76,17 +81,28 @@ impl MemFolder {
     /// Plans that these calls on the log of this task, of those that this folder's later logs make, are to fail. Where there is
     /// no memory nothing changes.
     pub fn fail_log(&mut self, path: &Path, calls: &[u64]) -> Result<(), Memory>
-        ensures ok { OnOk result (plans_of self.new ≡ plans_of self.old ++ (path.now, calls.now) ∷ []) }
-        ensures err { OnErr result (plans_of self.new ≡ plans_of self.old) }
-        ensures same_held { held_of self.new ≡ held_of self.old }
-        ensures same_sealed { sealed_of self.new ≡ sealed_of self.old }
-        ensures same_reads { read_faults_of self.new ≡ read_faults_of self.old }
-        ensures same_writes { write_faults_of self.new ≡ write_faults_of self.old }
-        ensures same_roots { roots_of self.new ≡ roots_of self.old }
-        ensures same_calls { calls_of self.new ≡ calls_of self.old }
-        ensures same_failing { failing_of self.new ≡ failing_of self.old }
+        ensures ok { OnOk result ((plans_of self.new).logs ≡ (plans_of self.old).logs ++ (path.now, calls.now) ∷ []) }
+        ensures err { OnErr result ((plans_of self.new).logs ≡ (plans_of self.old).logs) }
+        ensures same_files { (plans_of self.new).files ≡ (plans_of self.old).files }
+        ensures same { IsSame self.old self.new }
     {
         self.plans.add(path, calls)
+    }
+
+    /// Plans that these reads of each file that is opened under this name later are to fail, and no others. Where there is no memory
+    /// nothing changes.
+    pub fn fail_file(&mut self, name: &str, reads: &[u64]) -> Result<(), Memory>
+        ensures ok { OnOk result ((plans_of self.new).files ≡ with_file name.now reads.now (plans_of self.old).files) }
+        ensures err { OnErr result ((plans_of self.new).files ≡ (plans_of self.old).files) }
+        ensures same_logs { (plans_of self.new).logs ≡ (plans_of self.old).logs }
+        ensures same { IsSame self.old self.new }
+    {
+        store(
+            &mut self.file_plans,
+            self.alloc,
+            name,
+            reads.to_vec(self.alloc)?,
+        )
     }
 
     /// Makes the name hold the bytes. It is no call that is counted. Where there is no memory nothing changes.
@@ -97,7 +113,7 @@ impl MemFolder {
         ensures uncounted { IsUncounted self.old self.new }
         ensures same_failing { failing_of self.new ≡ failing_of self.old }
     {
-        store(&mut self.files, self.alloc, name, bytes)
+        store(&mut self.files, self.alloc, name, bytes.to_vec(self.alloc)?)
     }
 
     /// The bytes of the named file. `None` where there is none.
@@ -105,6 +121,20 @@ impl MemFolder {
         ensures { option_copied result ≡ held_of self.now name.now }
     {
         find(&self.files, name)
+    }
+
+    /// How many calls that read have failed, and how many that write: a file's or a log's faults count once it was given back.
+    pub fn faults(&self) -> (u64, u64)
+        ensures { result ≡ (read_faults_of self.now, write_faults_of self.now) }
+    {
+        (self.read_faults, self.write_faults)
+    }
+
+    /// How often `root` was called.
+    pub fn roots(&self) -> u64
+        ensures { result ≡ roots_of self.now }
+    {
+        self.roots
     }
 
     /// The name of the log that was sealed at this place, from 0. `None` past the end.
@@ -150,25 +180,14 @@ impl MemFolder {
         let name = log.name(alloc)?;
         let lengths = log.lengths().to_vec(alloc)?;
         self.sealed.try_reserve(1)?;
-        store(&mut self.files, alloc, name.as_str(), log.bytes())?;
+        store(
+            &mut self.files,
+            alloc,
+            name.as_str(),
+            log.bytes().to_vec(alloc)?,
+        )?;
         self.sealed.push(SealedLog { name, lengths }).unwrap();
         Ok(())
-    }
-
-    // A log that comes back brings its faults.
-    fn take_faults(&mut self, log: &MemLog)
-        ensures faults { TakesFaults (faults_of log.now) (write_faults_of self.old) (write_faults_of self.new) }
-        ensures no_faults { faults_of log.now ≡ 0 → write_faults_of self.new ≡ write_faults_of self.old }
-        ensures same_reads { read_faults_of self.new ≡ read_faults_of self.old }
-        ensures same { content_of self.new ≡ content_of self.old }
-        ensures same_roots { roots_of self.new ≡ roots_of self.old }
-        ensures same_calls { calls_of self.new ≡ calls_of self.old }
-        ensures same_failing { failing_of self.new ≡ failing_of self.old }
-        ensures same_plans { plans_of self.new ≡ plans_of self.old }
-    {
-        if log.faults() > 0 {
-            self.write_faults = self.write_faults.saturating_add(1);
-        }
     }
 
     // Counts that a root's log is asked for.
@@ -185,6 +204,8 @@ impl MemFolder {
 
 impl Folder for MemFolder {
     type Log = MemLog;
+
+    type File = MemFile;
 
     ghost state = { state_of };
 
@@ -234,6 +255,40 @@ impl Folder for MemFolder {
         Ok(copy_from(bytes, at, into))
     }
 
+    fn open_file(&mut self, alloc: Global, name: &str) -> Result<Option<MemFile>, Trouble>
+        ensures rest { IfOk result (λ found. WhereTold (content_of self.old) (λ c. option_map rest_of found ≡ option_map Some (c.held name.now))) }
+        ensures file_faults { IfOk result (λ found. IfSome found (λ file. file_faults_of file ≡ 0)) }
+        ensures file_calls { IfOk result (λ found. IfSome found (λ file. file_calls_of file ≡ 0)) }
+        ensures file_failing { IfOk result (λ found. IfSome found (λ file. file_failing_of file ≡ unwrap_or ((plans_of self.old).files name.now) [])) }
+
+        ensures same { state_of self.new ≡ state_of self.old }
+        ensures cause { HasCause (read_faults_of self.old) (read_faults_of self.new) result }
+        ensures no_fault { (IsErrOf result Trouble.Failed → ⊥) → read_faults_of self.new ≡ read_faults_of self.old }
+
+        ensures counts { CountsRead (IsErrOf result Trouble.Failed) self.old self.new }
+    {
+        if self.calls.fails(&mut self.read_faults) {
+            return Err(Trouble::Failed);
+        }
+        let Some(bytes) = find(&self.files, name) else {
+            return Ok(None);
+        };
+        let failing = find(&self.file_plans, name).unwrap_or(&[]);
+        Ok(Some(MemFile::new(alloc, bytes, failing)?))
+    }
+
+    fn close_file(&mut self, file: MemFile)
+        ensures same { state_of self.new ≡ state_of self.old }
+        ensures file_faults { TakesFaults (file_faults_of file) (read_faults_of self.old) (read_faults_of self.new) }
+        ensures no_faults { file_faults_of file ≡ 0 → read_faults_of self.new ≡ read_faults_of self.old }
+
+        ensures same_calls { calls_of self.new ≡ calls_of self.old }
+        ensures same_failing { failing_of self.new ≡ failing_of self.old }
+        ensures same_plans { plans_of self.new ≡ plans_of self.old }
+    {
+        take_faults(&mut self.read_faults, file.faults());
+    }
+
     fn put(&mut self, _alloc: Global, name: &str, bytes: &[u8]) -> Result<(), Trouble>
         ensures done { OnOk result (content_of self.new ≡ option_map (with_put name.now bytes.now) (content_of self.old)) }
         ensures refused { OnErr result (LeavesPrefix (content_of self.old) (content_of self.new) name.now bytes.now) }
@@ -259,8 +314,8 @@ impl Folder for MemFolder {
         ensures log_path { IfOk result (λ log. path_of log ≡ []) }
         ensures log_text { IfOk result (λ log. text_of log ≡ option_map (λ _. empty_text) (content_of self.old)) }
         ensures log_faults { IfOk result (λ log. faults_of log ≡ 0) }
-        ensures log_failing { IfOk result (λ log. FailsAsPlanned (plans_of self.old) [] (log_failing_of log)) }
-        ensures log_plans { IfOk result (λ log. log_plans_of log ≡ plans_of self.old) }
+        ensures log_failing { IfOk result (λ log. FailsAsPlanned (plans_of self.old).logs [] (log_failing_of log)) }
+        ensures log_plans { IfOk result (λ log. log_plans_of log ≡ (plans_of self.old).logs) }
 
         ensures same { content_of self.new ≡ content_of self.old }
         ensures cause { HasCause (write_faults_of self.old) (write_faults_of self.new) result }
@@ -294,7 +349,7 @@ impl Folder for MemFolder {
 
         ensures counts { CountsSeal (faults_of log ≡ 0) (IsErrAnd result (λ error. error.0 ≡ Trouble.Failed)) self.old self.new }
     {
-        self.take_faults(&log);
+        take_faults(&mut self.write_faults, log.faults());
         if self.calls.fails(&mut self.write_faults) {
             if let Ok(name) = log.name(alloc) {
                 self.tear_file(name.as_str(), log.bytes());
@@ -318,6 +373,6 @@ impl Folder for MemFolder {
         ensures same_failing { failing_of self.new ≡ failing_of self.old }
         ensures same_plans { plans_of self.new ≡ plans_of self.old }
     {
-        self.take_faults(&log);
+        take_faults(&mut self.write_faults, log.faults());
     }
 }

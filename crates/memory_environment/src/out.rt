@@ -48,6 +48,13 @@ impl MemOut {
     {
         &self.written
     }
+
+    /// How often a write failed.
+    pub fn faults(&self) -> u64
+        ensures { result ≡ faults_of self.now }
+    {
+        self.faults
+    }
 }
 
 impl Out for MemOut {

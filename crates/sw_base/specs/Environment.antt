@@ -48,10 +48,10 @@ pub record HasCause {T : Type 0} (before now : ℕ) (result : Result T Trouble) 
   pub later : before ≤ now
   pub failed : IsErrOf result Failed → Rose before now
 
--- a folder takes over that a log had faults
-pub record TakesFaults (of_log before now : ℕ) : Type 0 where
+-- a folder takes over that a log or a file had faults
+pub record TakesFaults (of_part before now : ℕ) : Type 0 where
   pub later : before ≤ now
-  pub faulty : 0 < of_log → Rose before now
+  pub faulty : 0 < of_part → Rose before now
 
 -- no file
 abbrev pub no_files : Files

@@ -1,9 +1,9 @@
-//! The environment as the rest of the program sees it: a folder with its logs, what is printed, and a gate.
+//! The environment as the rest of the program sees it: a folder with its logs and its opened files, what is printed, and a gate.
 //!
 //! What an object holds is optional: a real file tells nothing, and the versions in memory tell all. A clause on content
 //! says what holds where the object tells it. Counts of faults are always there, and never fall; they stay where a call did what it
 //! should, so a call that failed and was made again shows.
-ghost use Rattle.std.specs.Prelude.{◌≡◌, ◌+◌, ◌<◌, ◌≤◌, ℕ, List, [], ◌∷◌, ◌++◌, length, Option, unwrap_or, is_some, IfOk, IfErr, OnOk, OnErr, IsErrOf};
+ghost use Rattle.std.specs.Prelude.{◌≡◌, ◌+◌, ◌<◌, ◌≤◌, ℕ, List, [], ◌∷◌, ◌++◌, length, drop, Option, Some, unwrap_or, is_some, IfOk, IfErr, IfSome, OnOk, OnErr, IsErrOf};
 ghost use Rattle.std.specs.Option.{option_map};
 ghost use Rattle.sw_base.specs.Environment.{FolderState, Text, WhereTold, Rose, next_count, HasCause, TakesFaults, Reads, LeavesPrefix, TearsPiece, GainsPrefix, with_put, with_log, with_piece, empty_text, gained};
 ghost use Rattle.sw_base.specs.Names.{log_name};
@@ -85,15 +85,37 @@ pub trait Log: Drop + Send + Sized + 'static {
         ensures no_fault { OnOk result (faults self.new ≡ faults self.old) };
 }
 
-/// A map from names to files, in which logs are made and sealed. `size` and `read` count their faults by themselves.
+/// A file that was opened, which is read from its start on by whoever owns it.
+pub trait File: Drop + Send + Sized {
+    /// The bytes that are still to be read, where the file tells them.
+    ghost rest: { Self → Option (List ℕ) };
+
+    /// How often a read of this file failed, from 0 on.
+    ghost faults: { Self → ℕ };
+
+    /// Reads the next bytes into the start of `into`, and answers how many. Fewer may come than `into` has room for, but none only
+    /// at the end or where there is no room. Behind them, and after an error, `into` may hold anything. After an error the file
+    /// may stand anywhere.
+    fn read(&mut self, alloc: Global, into: &mut [u8]) -> Result<usize, Trouble>
+        ensures fits { IfOk result (λ count. count ≤ length into.old) }
+        ensures bytes { IfOk result (λ count. WhereTold (rest self.old) (λ bytes. Reads bytes 0 count into.new)) }
+        ensures passed { IfOk result (λ count. rest self.new ≡ option_map (drop count) (rest self.old)) }
+
+        ensures cause { HasCause (faults self.old) (faults self.new) result }
+        ensures no_fault { (IsErrOf result Trouble.Failed → ⊥) → faults self.new ≡ faults self.old };
+}
+
+/// A map from names to files, in which logs are made and sealed. Calls that only read count their faults by themselves.
 pub trait Folder {
     type Log: Log;
 
-    /// The files that the folder holds and the logs that it sealed, where the folder tells them; how often a call other than `size`
-    /// and `read` failed, or a log with faults came back; and how often `root` was called.
+    type File: File;
+
+    /// The files that the folder holds and the logs that it sealed, where the folder tells them; how often a call that writes
+    /// failed, or a log with faults came back; and how often `root` was called.
     ghost state: { Self → FolderState };
 
-    /// How often `size` or `read` failed.
+    /// How often `size`, `read` or `open_file` failed, or a file with faults came back.
     ghost read_faults: { Self → ℕ };
 
     /// How many bytes the named file has. `None` where there is none.
@@ -120,6 +142,21 @@ pub trait Folder {
         ensures same { state self.new ≡ state self.old }
         ensures cause { HasCause (read_faults self.old) (read_faults self.new) result }
         ensures no_fault { OnOk result (read_faults self.new ≡ read_faults self.old) };
+
+    /// The named file, before its first byte. `None` where there is none.
+    fn open_file(&mut self, alloc: Global, name: &str) -> Result<Option<Self::File>, Trouble>
+        ensures rest { IfOk result (λ found. WhereTold (state self.old).content (λ c. option_map Self.File.rest found ≡ option_map Some (c.held name.now))) }
+        ensures file_faults { IfOk result (λ found. IfSome found (λ file. Self.File.faults file ≡ 0)) }
+
+        ensures same { state self.new ≡ state self.old }
+        ensures cause { HasCause (read_faults self.old) (read_faults self.new) result }
+        ensures no_fault { (IsErrOf result Trouble.Failed → ⊥) → read_faults self.new ≡ read_faults self.old };
+
+    /// Takes a file back.
+    fn close_file(&mut self, file: Self::File)
+        ensures same { state self.new ≡ state self.old }
+        ensures file_faults { TakesFaults (Self.File.faults file) (read_faults self.old) (read_faults self.new) }
+        ensures no_faults { Self.File.faults file ≡ 0 → read_faults self.new ≡ read_faults self.old };
 
     /// Makes the named file hold these bytes.
     fn put(&mut self, alloc: Global, name: &str, bytes: &[u8]) -> Result<(), Trouble>

@@ -1,4 +1,6 @@
 //! Why a call gives up: no memory was found, or the environment failed.
+ghost use Rattle.std.specs.Prelude.{◌≡◌};
+ghost use Rattle.sw_base.specs.Environment.{TakesFaults};
 
 use std::alloc::{AllocError, AllocFailed};
 
@@ -57,5 +59,15 @@ impl<T: Drop> From<AllocFailed<T>> for Trouble {
 
     fn from(_: AllocFailed<T>) -> Self {
         Trouble::Memory
+    }
+}
+
+/// Counts one fault more where a log or a file with faults came back.
+pub fn take_faults(faults: &mut u64, of_part: u64)
+    ensures takes { TakesFaults of_part faults.old faults.new }
+    ensures none { of_part ≡ 0 → faults.new ≡ faults.old }
+{
+    if of_part > 0 {
+        *faults = faults.saturating_add(1);
     }
 }

@@ -1,8 +1,8 @@
 //! `sword` runs fork-join loop kernels and logs their accesses, checks the logs for data races, compares them with a kernel, and prints them.
 #![tactic(auto)]
 
-use std::process::ExitCode;
+use sword_program::Ended;
 
-fn main(rt: HostRuntime) -> ExitCode {
+fn main(rt: HostRuntime) -> Ended {
     sword_program::run(rt, rt)
 }

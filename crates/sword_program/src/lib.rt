@@ -5,4 +5,4 @@
 
 mod program;
 
-pub use program::run;
+pub use program::{Ended, run};

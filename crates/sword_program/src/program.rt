@@ -7,7 +7,7 @@ ghost use Rattle.top_call.specs.Arguments.{AsksToRead, IsUsage, texts};
 
 use command_answer::NO_MEMORY;
 use host_environment::{HostFolder, HostOut, given_arguments};
-use std::process::ExitCode;
+use std::process::{ExitCode, Termination};
 use std::sync::Wait;
 use std::thread::{Builder, Threads};
 use sw_base::NoGate;
@@ -53,16 +53,26 @@ fn work<R: Threads + Wait + Sync + Copy + Send + 'static>(
     }
 }
 
+/// How the program ended, which only its run makes. It can't be let go, so a `main` that runs the program ends with this status.
+pub struct Ended {
+    status: ExitCode,
+}
+
+impl Termination for Ended {
+    fn report<R: Eprint>(self, _rt: &R) -> ExitCode {
+        let Ended { status } = self;
+        status
+    }
+}
+
 /// The whole program, on a stack of its own, or on this one where no thread can be started. Threads are started by the first runtime.
-pub fn run<R: Threads + Wait + Copy + Send + Sync + 'static>(
-    threads: R,
-    rt: HostRuntime,
-) -> ExitCode {
-    match Builder::new()
+pub fn run<R: Threads + Wait + Copy + Send + Sync + 'static>(threads: R, rt: HostRuntime) -> Ended {
+    let status = match Builder::new()
         .stack_size(STACK)
         .spawn(&threads, move || work(&threads, rt))
     {
         Ok(thread) => thread.join(&threads),
         Err(_) => work(&threads, rt),
-    }
+    };
+    Ended { status }
 }

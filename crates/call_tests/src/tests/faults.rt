@@ -11,6 +11,7 @@ const NONE: Calls<'static> = Calls {
     case: EMPTY,
     reads: 0,
     writes: 0,
+    roots: 0,
     puts: &[],
     prints: 1,
     logs: &[],
@@ -32,6 +33,7 @@ const ENDS: Calls<'static> = Calls {
     },
     reads: 3,
     writes: 5,
+    roots: 1,
     logs: &[(&[], 4), (&[(0, 0, 2)], 4), (&[(0, 1, 2)], 4)],
     made: &["d/t.swl", "d/t-0.0.swl", "d/t-0.1.swl", "d/index.swi"],
     ..NONE
@@ -54,6 +56,7 @@ const STOPS: Calls<'static> = Calls {
     },
     reads: 3,
     writes: 4,
+    roots: 1,
     made: &["d/t.swl", "d/t-0.0.swl", "d/t-0.1.swl"],
     ..NONE
 };

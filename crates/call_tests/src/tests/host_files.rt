@@ -1,12 +1,16 @@
 //! What the host's folder does to real files.
 
-use host_environment::{HostFolder, write_whole};
+use crate::tests::fixtures::{asked, printed};
+use command_answer::{READ_FAULT, WRITE_FAULT};
+use host_environment::{HostFile, HostFolder, HostLog, write_whole};
+use memory_environment::MemOut;
 use std::alloc::Global;
-use std::io::{self, Write};
+use std::io::{self, Error, ErrorKind, Write};
 use std::process::Abort;
+use std::rt::Files;
 use std::test::Fail;
 use std::{env, fs, process};
-use sw_base::{Folder, Log, Trouble, read_file};
+use sw_base::{File, Folder, Gate, Log, Trouble, read_file};
 
 type Host = HostFolder<HostRuntime>;
 
@@ -205,11 +209,189 @@ fn a_log_that_can_not_be_made_is_a_fault_of_the_one_above(rt: HostRuntime) -> Re
     Ok(())
 }
 
-// A writer that takes three bytes a call, and writes them at a flush.
+// What someone else leaves of a log's file that held a header. Nothing where it is gone.
+const CHANGED: &[Option<&[u8]>] = &[Some(b""), Some(b"SWLOG00"), Some(b"SWLOG0022"), None];
+
+// A root's log whose file was changed so after its first piece.
+fn changed_log<R: Abort + Files>(
+    rt: &R,
+    folder: &mut Host,
+    alloc: Global,
+    dir: &str,
+    left: Option<&[u8]>,
+) -> HostLog<HostRuntime> {
+    let name = format!(in alloc; "{dir}/t.swl").expect(rt, "memory");
+    let mut root = folder.root(alloc, dir).expect(rt, "a log");
+    root.append(alloc, b"SWLOG002").expect(rt, "a whole piece");
+    match left {
+        Some(bytes) => folder.put(alloc, &name, bytes).expect(rt, "a file"),
+        None => fs::remove_file(rt, &name).expect(rt, "no file"),
+    }
+    root
+}
+
+// Whether the file is as someone else left it.
+fn is_left(folder: &mut Host, alloc: Global, name: &str, left: Option<&[u8]>) -> bool {
+    match left {
+        Some(bytes) => has_bytes(folder, alloc, name, bytes),
+        None => is_missing(folder, alloc, name),
+    }
+}
+
+// Whether a seal fails, and gives the log back.
+fn fails_to_seal(folder: &mut Host, alloc: Global, log: HostLog<HostRuntime>) -> bool {
+    match folder.seal(alloc, log) {
+        Err((trouble, log)) => {
+            folder.discard(log);
+            trouble == Trouble::Failed
+        }
+        Ok(()) => false,
+    }
+}
+
+#[test]
+fn a_log_that_someone_else_changed_is_a_fault(rt: HostRuntime) -> Result<(), Fail> {
+    let alloc = rt.alloc();
+    let dir = fresh(&rt, "changed")?;
+    let name = format!(in alloc; "{dir}/t.swl").expect(&rt, "memory");
+    for left in CHANGED {
+        let mut folder = HostFolder::new(rt);
+        let mut root = changed_log(&rt, &mut folder, alloc, &dir, *left);
+        assert!(rt; root.append(alloc, b"more") == Err(Trouble::Failed));
+        assert!(rt; is_left(&mut folder, alloc, &name, *left));
+        folder.discard(root);
+        assert!(rt; folder.faults() == (0, 1));
+        let root = changed_log(&rt, &mut folder, alloc, &dir, *left);
+        assert!(rt; fails_to_seal(&mut folder, alloc, root));
+        assert!(rt; is_left(&mut folder, alloc, &name, *left) && folder.faults() == (0, 2));
+    }
+    fs::remove_dir_all(&rt, &dir).expect(&rt, "no folder");
+    Ok(())
+}
+
+// A root's log in this folder, with a header.
+fn begun(rt: &impl Abort, folder: &mut Host, alloc: Global, dir: &str) -> HostLog<HostRuntime> {
+    let mut root = folder.root(alloc, dir).expect(rt, "a log");
+    root.append(alloc, b"SWLOG002").expect(rt, "a whole piece");
+    root
+}
+
+#[test]
+fn two_runs_at_once_into_one_folder_are_not_both_done(rt: HostRuntime) -> Result<(), Fail> {
+    let alloc = rt.alloc();
+    let dir = fresh(&rt, "twice")?;
+    let mut one = HostFolder::new(rt);
+    let mut other = HostFolder::new(rt);
+    let mut first = begun(&rt, &mut one, alloc, &dir);
+    let mut second = begun(&rt, &mut other, alloc, &dir);
+    assert!(rt; first.append(alloc, b"one") == Ok(()));
+    assert!(rt; second.append(alloc, b"two") == Err(Trouble::Failed));
+    other.discard(second);
+    // The other one begins anew before the first one's log is sealed.
+    let second = begun(&rt, &mut other, alloc, &dir);
+    assert!(rt; fails_to_seal(&mut one, alloc, first) && other.seal(alloc, second).is_ok());
+    assert!(rt; one.faults() == (0, 1) && other.faults() == (0, 1));
+    fs::remove_dir_all(&rt, &dir).expect(&rt, "no folder");
+    Ok(())
+}
+
+// Removes a file as soon as a lane of number 1 starts.
+#[derive(Drop)]
+struct Remover<R> {
+    rt: R,
+    name: String,
+}
+
+impl<R: Files + Sync> Gate for Remover<R> {
+    fn enter(&self, number: usize) {
+        if number == 1 {
+            let _ = fs::remove_file(&self.rt, &self.name);
+        }
+    }
+}
+
+#[test]
+fn a_run_whose_log_is_deleted_is_not_done(rt: HostRuntime) -> Result<(), Fail> {
+    let alloc = rt.alloc();
+    let dir = fresh(&rt, "deleted")?;
+    let kernel = format!(in alloc; "{dir}/k").expect(&rt, "memory");
+    let name = format!(in alloc; "{dir}/t-0.1.swl").expect(&rt, "memory");
+    let gate = Remover { rt, name };
+    let mut folder = HostFolder::new(rt);
+    let text = b"array a i64 8\nmain { parallel 2 { for i in 0 .. 8 { a[i] = i } } }\n";
+    assert!(rt; folder.put(alloc, &kernel, text) == Ok(()));
+    let mut out = MemOut::new(alloc).expect(&rt, "memory");
+    let words = ["run", kernel.as_str(), dir.as_str(), "24"];
+    let status = asked(&rt, alloc, &mut folder, &words, &mut out, &gate);
+    assert!(rt; status == WRITE_FAULT && out.written().is_empty() && folder.faults() == (0, 1));
+    fs::remove_dir_all(&rt, &dir).expect(&rt, "no folder");
+    Ok(())
+}
+
+#[test]
+fn what_is_no_regular_file_has_no_size(rt: HostRuntime) -> Result<(), Fail> {
+    let alloc = rt.alloc();
+    let dir = fresh(&rt, "sizes")?;
+    fs::create_dir(&rt, &dir).expect(&rt, "a folder");
+    let mut folder = HostFolder::new(rt);
+    assert!(rt; folder.size(alloc, &dir) == Err(Trouble::Failed));
+    assert!(rt; folder.faults() == (1, 0));
+    let words = ["run", "/dev/null", dir.as_str(), "4096"];
+    let (status, out) = printed(&rt, alloc, &mut folder, &words, &[]);
+    assert!(rt; status == READ_FAULT && out.written().is_empty() && folder.faults() == (2, 0));
+    fs::remove_dir_all(&rt, &dir).expect(&rt, "no folder");
+    Ok(())
+}
+
+// What is left of an opened file, read in pieces of three bytes.
+fn rest_of(rt: &impl Abort, alloc: Global, file: &mut HostFile) -> Vec<u8> {
+    let mut whole = Vec::new(alloc);
+    let mut into = [0u8; 3];
+    for _ in 0..100 {
+        let count = file.read(alloc, &mut into).expect(rt, "bytes");
+        if count == 0 {
+            break;
+        }
+        let piece = into.get(..count).expect(rt, "a piece");
+        whole.extend_from_slice(piece).expect(rt, "memory");
+    }
+    whole
+}
+
+#[test]
+fn an_opened_file_is_read_to_its_end(rt: HostRuntime) -> Result<(), Fail> {
+    let alloc = rt.alloc();
+    let dir = fresh(&rt, "opened")?;
+    let name = format!(in alloc; "{dir}/t.swl").expect(&rt, "memory");
+    let none = format!(in alloc; "{name}/none").expect(&rt, "memory");
+    let mut folder = HostFolder::new(rt);
+    assert!(rt; folder.put(alloc, &name, b"eleven byte") == Ok(()));
+    let mut file = folder
+        .open_file(alloc, &name)
+        .expect(&rt, "a file")
+        .ok_or("a file")?;
+    assert!(rt; rest_of(&rt, alloc, &mut file).as_slice() == b"eleven byte".as_slice());
+    folder.close_file(file);
+    assert!(rt; matches!(folder.open_file(alloc, &none), Ok(None)) && folder.faults() == (0, 0));
+    // A folder can be opened, and not be read. The fault counts once the file was given back.
+    let mut file = folder
+        .open_file(alloc, &dir)
+        .expect(&rt, "a folder")
+        .ok_or("a folder")?;
+    assert!(rt; file.read(alloc, &mut [0; 3]) == Err(Trouble::Failed));
+    assert!(rt; folder.faults() == (0, 0));
+    folder.close_file(file);
+    assert!(rt; folder.faults() == (1, 0));
+    fs::remove_dir_all(&rt, &dir).expect(&rt, "no folder");
+    Ok(())
+}
+
+// A writer that takes three bytes a call, and writes them at a flush, which may fail.
 #[derive(Drop)]
 struct Late {
     waiting: usize,
     written: usize,
+    failing: Option<ErrorKind>,
 }
 
 impl Write for Late {
@@ -220,17 +402,46 @@ impl Write for Late {
     }
 
     fn flush(&mut self) -> io::Result<()> {
+        if let Some(kind) = self.failing {
+            return Err(Error::from(kind));
+        }
         self.written = self.waiting;
         Ok(())
     }
 }
 
-#[test]
-fn a_piece_is_written_to_its_end(rt: HostRuntime) {
-    let mut late = Late {
+// A writer that took nothing yet.
+fn writer(failing: Option<ErrorKind>) -> Late {
+    Late {
         waiting: 0,
         written: 0,
-    };
+        failing,
+    }
+}
+
+#[test]
+fn a_piece_is_written_to_its_end(rt: HostRuntime) {
+    let mut late = writer(None);
     assert!(rt; write_whole(&mut late, b"eleven byte").is_ok());
     assert!(rt; late.written == 11);
+}
+
+// Why a piece isn't written by a writer whose flush fails so.
+fn why_not_flushed(kind: ErrorKind, piece: &[u8]) -> Option<ErrorKind> {
+    match write_whole(&mut writer(Some(kind)), piece) {
+        Ok(()) => None,
+        Err(error) => Some(error.kind()),
+    }
+}
+
+// Want of memory at a flush of bytes is an error as others are, since they may have been written.
+#[test]
+fn a_flush_that_fails_is_an_error(rt: HostRuntime) {
+    let whys = [
+        why_not_flushed(ErrorKind::StorageFull, b"eleven byte"),
+        why_not_flushed(ErrorKind::OutOfMemory, b"eleven byte"),
+        why_not_flushed(ErrorKind::OutOfMemory, b""),
+    ];
+    let due = [ErrorKind::Other, ErrorKind::Other, ErrorKind::OutOfMemory].map(Some);
+    assert!(rt; whys == due, "{whys:?}");
 }

@@ -291,6 +291,16 @@ const TWO_LANES: Case<'static> = Case {
 };
 
 #[test]
+fn each_number_of_workers_finds_a_race(rt: HostRuntime) {
+    let alloc = rt.alloc();
+    let mut folder = folder_of(&rt, alloc, &TWO_LANES);
+    for workers in 1..65u8 {
+        let word = format!(in alloc; "{workers}").expect(&rt, "memory");
+        check_answers(&rt, alloc, &mut folder, &word, RACES, "race 3 3\nraces 1\n");
+    }
+}
+
+#[test]
 fn the_workers_of_a_check_run_at_once(rt: HostRuntime) {
     let alloc = rt.alloc();
     let text = "race 3 3\nraces 1\n";

@@ -4,7 +4,7 @@ ghost use Rattle.memory_environment.specs.MemFolder.{read_faults_of, write_fault
 
 use crate::tests::fixtures::asked;
 use command_answer::DONE;
-use memory_environment::{MemFolder, MemOut};
+use memory_environment::{MemFile, MemFolder, MemOut};
 use std::alloc::Global;
 use std::sync::Arc;
 use std::sync::atomic::{AtomicBool, AtomicU64, Ordering};
@@ -74,6 +74,8 @@ struct CountingFolder {
 impl Folder for CountingFolder {
     type Log = CountedLog;
 
+    type File = MemFile;
+
     ghost state = { λ f. record { content = None; write_faults = write_faults_of f.files; roots = f.roots } };
 
     ghost read_faults = { λ f. read_faults_of f.files };
@@ -90,6 +92,14 @@ impl Folder for CountingFolder {
         into: &mut [u8],
     ) -> Result<usize, Trouble> {
         self.files.read(alloc, name, at, into)
+    }
+
+    fn open_file(&mut self, alloc: Global, name: &str) -> Result<Option<MemFile>, Trouble> {
+        self.files.open_file(alloc, name)
+    }
+
+    fn close_file(&mut self, file: MemFile) {
+        self.files.close_file(file);
     }
 
     fn put(&mut self, alloc: Global, name: &str, bytes: &[u8]) -> Result<(), Trouble> {

@@ -3,13 +3,13 @@ ghost use Rattle.std.specs.Prelude.{◌≡◌, [], IfOk};
 ghost use Rattle.memory_environment.specs.MemLog.{path_of};
 
 use crate::tests::support::folder_of;
-use memory_environment::{MemFolder, MemLog, MemOut};
+use memory_environment::{MemFolder, MemLog, MemOut, ShortReads};
 use std::alloc::Global;
 use std::cmp::Ordering;
 use std::process::Abort;
 use sw_base::{
-    Folder, Gate, INDEX_HEADER, LOG_HEADER, Log, Memory, NoGate, OLD_INDEX_HEADER, OLD_LOG_HEADER,
-    Out, Path, Step, Trouble, index_name, read_file,
+    File, Folder, Gate, INDEX_HEADER, LOG_HEADER, Log, Memory, NoGate, OLD_INDEX_HEADER,
+    OLD_LOG_HEADER, Out, Path, Step, Trouble, index_name, read_file,
 };
 
 // Whether the name was made, and is this one.
@@ -352,13 +352,57 @@ fn a_file_longer_than_a_window_is_read_whole(rt: HostRuntime) {
     assert!(rt; lengths == [Some(9000), None]);
 }
 
+// How many bytes come at each of four reads of an opened file, and those of the last that aren't none.
+fn four_reads<T: File>(alloc: Global, file: &mut T) -> ([Result<usize, Trouble>; 4], [u8; 6]) {
+    let mut into = [0; 6];
+    let counts = [
+        file.read(alloc, &mut into),
+        file.read(alloc, &mut into),
+        file.read(alloc, &mut into),
+        file.read(alloc, &mut into),
+    ];
+    (counts, into)
+}
+
+#[test]
+fn planned_reads_of_an_opened_file_fail(rt: HostRuntime) {
+    let alloc = rt.alloc();
+    let mut folder = folder_of(alloc, "name", b"eleven byte").expect(&rt, "memory");
+    folder.fail_file("name", &[1]).expect(&rt, "memory");
+    folder.fail_file("name", &[2]).expect(&rt, "memory");
+    folder.fail_file("other", &[3]).expect(&rt, "memory");
+    let file = folder.open_file(alloc, "name").expect(&rt, "memory");
+    let mut file = file.expect(&rt, "a file");
+    let (counts, into) = four_reads(alloc, &mut file);
+    let due = [Ok(6), Err(Trouble::Failed), Ok(5), Ok(0)];
+    assert!(rt; counts == due && into == *b" byten", "{counts:?}");
+    assert!(rt; folder.faults() == (0, 0));
+    folder.close_file(file);
+    assert!(rt; folder.faults() == (1, 0));
+    assert!(rt; matches!(folder.open_file(alloc, "other"), Ok(None)));
+}
+
+#[test]
+fn an_opened_file_comes_in_short_pieces(rt: HostRuntime) {
+    let alloc = rt.alloc();
+    let folder = folder_of(alloc, "name", b"eleven byte").expect(&rt, "memory");
+    let mut folder = ShortReads { folder };
+    let file = folder.open_file(alloc, "name").expect(&rt, "memory");
+    let mut file = file.expect(&rt, "a file");
+    let (counts, into) = four_reads(alloc, &mut file);
+    assert!(rt; counts == [Ok(5), Ok(5), Ok(1), Ok(0)] && into == *b"e byt\0");
+    folder.close_file(file);
+    assert!(rt; folder.folder.faults() == (0, 0));
+}
+
 // Makes calls of a folder once, and tells which answers were errors.
-fn errors_of_files(alloc: Global, folder: &mut MemFolder) -> [bool; 3] {
+fn errors_of_files(alloc: Global, folder: &mut MemFolder) -> [bool; 4] {
     let mut into = [0; 4];
     [
         folder.put(alloc, "name", b"abcd").is_err(),
         folder.size(alloc, "name").is_err(),
         folder.read(alloc, "name", 0, &mut into).is_err(),
+        folder.open_file(alloc, "name").is_err(),
     ]
 }
 
@@ -377,7 +421,7 @@ fn failing_folder(rt: &impl Abort, alloc: Global, number: u64) -> MemFolder {
 }
 
 // Which answers were errors where the call of this number fails.
-fn errors_where_one_fails(rt: &impl Abort, alloc: Global, number: u64) -> ([bool; 3], [bool; 2]) {
+fn errors_where_one_fails(rt: &impl Abort, alloc: Global, number: u64) -> ([bool; 4], [bool; 2]) {
     let mut folder = failing_folder(rt, alloc, number);
     let of_files = errors_of_files(alloc, &mut folder);
     (of_files, errors_of_logs(rt, alloc, &mut folder))
@@ -386,12 +430,13 @@ fn errors_where_one_fails(rt: &impl Abort, alloc: Global, number: u64) -> ([bool
 #[test]
 fn calls_of_a_folder_fail_by_their_number(rt: HostRuntime) {
     let table = [
-        (0, ([false, false, false], [false, false])),
-        (1, ([true, false, false], [false, false])),
-        (2, ([false, true, false], [false, false])),
-        (3, ([false, false, true], [false, false])),
-        (4, ([false, false, false], [true, false])),
-        (5, ([false, false, false], [false, true])),
+        (0, ([false, false, false, false], [false, false])),
+        (1, ([true, false, false, false], [false, false])),
+        (2, ([false, true, false, false], [false, false])),
+        (3, ([false, false, true, false], [false, false])),
+        (4, ([false, false, false, true], [false, false])),
+        (5, ([false, false, false, false], [true, false])),
+        (6, ([false, false, false, false], [false, true])),
     ];
     for (number, due) in table {
         let found = errors_where_one_fails(&rt, rt.alloc(), number);
