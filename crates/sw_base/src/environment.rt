@@ -102,7 +102,7 @@ pub trait Folder {
 
         ensures same { state self.new ≡ state self.old }
         ensures cause { HasCause (read_faults self.old) (read_faults self.new) result }
-        ensures no_fault { OnOk result (read_faults self.new ≡ read_faults self.old) };
+        ensures no_fault { (IsErrOf result Trouble.Failed → ⊥) → read_faults self.new ≡ read_faults self.old };
 
     /// Reads bytes of the named file, from the place `at` on, into the start of `into`, and answers how many. A file that
     /// isn't there is read as one without a byte. Fewer may come than `into` has room for, but none only at the end or where
@@ -119,7 +119,7 @@ pub trait Folder {
 
         ensures same { state self.new ≡ state self.old }
         ensures cause { HasCause (read_faults self.old) (read_faults self.new) result }
-        ensures no_fault { OnOk result (read_faults self.new ≡ read_faults self.old) };
+        ensures no_fault { (IsErrOf result Trouble.Failed → ⊥) → read_faults self.new ≡ read_faults self.old };
 
     /// Makes the named file hold these bytes.
     fn put(&mut self, alloc: Global, name: &str, bytes: &[u8]) -> Result<(), Trouble>
