@@ -1,3 +1,6 @@
+/// The bytes of a record.
+pub const RECORD_SIZE: usize = 24;
+
 /// How many records a log has at most.
 pub const RECORD_LIMIT: u32 = 4_194_304;
 

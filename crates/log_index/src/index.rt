@@ -1,6 +1,7 @@
-ghost use Rattle.std.specs.Prelude.{◌≡◌, ◌≤◌, ℕ, IfOk, OnOk, OnErr, IsErrOf};
+ghost use Rattle.std.specs.Prelude.{◌≡◌, ℕ, IfOk, OnOk, OnErr, IsErrOf};
 ghost use Rattle.std.specs.Option.{option_map};
-ghost use Rattle.sw_base.specs.Environment.{WhereTold, Rose, HasCause, LeavesPrefix, with_put};
+ghost use Rattle.sw_base.specs.Environment.{WhereTold, HasCause, LeavesPrefix, with_put};
+ghost use Rattle.sw_base.specs.OnlyReads.{OnlyReads};
 ghost use Rattle.sw_base.specs.Names.{index_name};
 ghost use Rattle.log_format.specs.declared.format.Format.TheVariants.{First};
 ghost use Rattle.log_format.specs.declared.format.TheConstants.{FORMAT};
@@ -28,9 +29,7 @@ pub fn read_index<F: Folder>(
     ensures bad { (n : ℕ) (why : IndexWhy) → IsErrOf result (IndexAnswer.Bad n why) →
         WhereTold (F.state folder.old).content (λ c. IsFirstBadIndexPlace FORMAT c.held dir.now (bad_row n why)) }
 
-    ensures same { F.state folder.new ≡ F.state folder.old }
-    ensures later { F.read_faults folder.old ≤ F.read_faults folder.new }
-    ensures cause { IsErrOf result IndexAnswer.ReadFault → Rose (F.read_faults folder.old) (F.read_faults folder.new) }
+    ensures reads { OnlyReads F.Folder folder.old folder.new (IsErrOf result IndexAnswer.ReadFault) }
 {
     read_index_as(alloc, FORMAT, folder, dir)
 }
@@ -47,9 +46,7 @@ pub fn read_index_old<F: Folder>(
     ensures bad { (n : ℕ) (why : IndexWhy) → IsErrOf result (IndexAnswer.Bad n why) →
         WhereTold (F.state folder.old).content (λ c. IsFirstBadIndexPlace First c.held dir.now (bad_row n why)) }
 
-    ensures same { F.state folder.new ≡ F.state folder.old }
-    ensures later { F.read_faults folder.old ≤ F.read_faults folder.new }
-    ensures cause { IsErrOf result IndexAnswer.ReadFault → Rose (F.read_faults folder.old) (F.read_faults folder.new) }
+    ensures reads { OnlyReads F.Folder folder.old folder.new (IsErrOf result IndexAnswer.ReadFault) }
 {
     read_index_as(alloc, Format::First, folder, dir)
 }
@@ -67,9 +64,7 @@ pub fn read_index_as<F: Folder>(
     ensures bad { (n : ℕ) (why : IndexWhy) → IsErrOf result (IndexAnswer.Bad n why) →
         WhereTold (F.state folder.old).content (λ c. IsFirstBadIndexPlace format c.held dir.now (bad_row n why)) }
 
-    ensures same { F.state folder.new ≡ F.state folder.old }
-    ensures later { F.read_faults folder.old ≤ F.read_faults folder.new }
-    ensures cause { IsErrOf result IndexAnswer.ReadFault → Rose (F.read_faults folder.old) (F.read_faults folder.new) }
+    ensures reads { OnlyReads F.Folder folder.old folder.new (IsErrOf result IndexAnswer.ReadFault) }
 {
     let name = index_name(alloc, dir)?;
     match folder.size(alloc, &name) {

@@ -1,5 +1,6 @@
 ghost use Rattle.std.specs.Prelude.{◌≡◌, ◌≢◌, ℕ, ◌+◌, ◌*◌, ◌≤◌, [], length, take, drop, map, IsTrue, IsFalse, IfOk, IfErr, IsErrOf, OnOk};
-ghost use Rattle.sw_base.specs.Environment.{WhereTold, HasCause, Rose};
+ghost use Rattle.sw_base.specs.Environment.{WhereTold};
+ghost use Rattle.sw_base.specs.OnlyReads.{OnlyReads};
 ghost use Rattle.sw_base.specs.Window.{Shows, file_of};
 ghost use Rattle.log_format.specs.Format.{index_header};
 ghost use Rattle.race_model.specs.declared.why.IndexWhy.{IndexWhy};
@@ -22,6 +23,9 @@ const MAX_ROWS: usize = 65_536;
 
 /// The bytes of a row.
 const ROW: usize = 48;
+
+/// How many bytes of an index are read at once: 1,365 rows.
+const WINDOW: usize = 65_520;
 
 /// The row with these fields.
 fn row_of_fields(fields: &Fields) -> Row
@@ -96,7 +100,7 @@ fn read_row<F: Folder>(
     requires good { AreFirstRows rows.old.items }
     requires place { window.old.place ≡ 8 + 48 * length rows.old.items }
     ensures grows { IfOk result (λ more. IsTrue more → Grows rows.old.items rows.new.items window.old window.new) }
-    ensures reads { IfOk result (λ more. IsTrue more → WhereTold (F.state folder.old).content (λ c. Shows window.old (file_of c name.now)
+    ensures row { IfOk result (λ more. IsTrue more → WhereTold (F.state folder.old).content (λ c. Shows window.old (file_of c name.now)
         → ReadsRow (file_of c name.now) rows.old.items rows.new.items window.old window.new)) }
     ensures ends { IfOk result (λ more. IsFalse more → rows.new.items ≡ rows.old.items) }
     ensures all { IfOk result (λ more. IsFalse more → WhereTold (F.state folder.old).content (λ c. Shows window.old (file_of c name.now)
@@ -105,9 +109,7 @@ fn read_row<F: Folder>(
         × WhereTold (F.state folder.old).content (λ c. Shows window.old (file_of c name.now) → FailsIndexFirst (map raw_of rows.old.items) (drop window.old.place (file_of c name.now)) why)) }
     ensures there { IsErrOf result IndexAnswer.NoIndex → ⊥ }
 
-    ensures same { F.state folder.new ≡ F.state folder.old }
-    ensures later { F.read_faults folder.old ≤ F.read_faults folder.new }
-    ensures cause { IsErrOf result IndexAnswer.ReadFault → Rose (F.read_faults folder.old) (F.read_faults folder.new) }
+    ensures reads { OnlyReads F.Folder folder.old folder.new (IsErrOf result IndexAnswer.ReadFault) }
 {
     window.fill(alloc, folder, name, ROW)?;
     if window.ahead().is_empty() {
@@ -133,9 +135,7 @@ fn first_rows<F: Folder>(
         → WhereTold (F.state folder.old).content (λ c. Shows window.old (file_of c name.now) → StopsAt (drop 8 (file_of c name.now)) n why)) }
     ensures there { IsErrOf result IndexAnswer.NoIndex → ⊥ }
 
-    ensures same { F.state folder.new ≡ F.state folder.old }
-    ensures later { F.read_faults folder.old ≤ F.read_faults folder.new }
-    ensures cause { IsErrOf result IndexAnswer.ReadFault → Rose (F.read_faults folder.old) (F.read_faults folder.new) }
+    ensures reads { OnlyReads F.Folder folder.old folder.new (IsErrOf result IndexAnswer.ReadFault) }
 {
     let mut rows = Vec::new(alloc);
     'rows: loop {
@@ -171,8 +171,7 @@ fn header_fault<F: Folder>(
     ensures bad { IfOk result (λ why. WhereTold (F.state folder.old).content (λ c. take 8 (file_of c name.now) ≢ index_header format
         → IsFirstBadRow format (file_of c name.now) 0 why)) }
 
-    ensures same { F.state folder.new ≡ F.state folder.old }
-    ensures cause { HasCause (F.read_faults folder.old) (F.read_faults folder.new) result }
+    ensures reads { OnlyReads F.Folder folder.old folder.new (IsErrOf result Trouble.Failed) }
 {
     let Some(older) = format.older_header() else {
         return Ok(IndexWhy::Header);
@@ -197,11 +196,9 @@ pub fn read_rows<F: Folder>(
         → WhereTold (F.state folder.old).content (λ c. IsFirstBadRow format (file_of c name.now) n why)) }
     ensures there { IsErrOf result IndexAnswer.NoIndex → ⊥ }
 
-    ensures same { F.state folder.new ≡ F.state folder.old }
-    ensures later { F.read_faults folder.old ≤ F.read_faults folder.new }
-    ensures cause { IsErrOf result IndexAnswer.ReadFault → Rose (F.read_faults folder.old) (F.read_faults folder.new) }
+    ensures reads { OnlyReads F.Folder folder.old folder.new (IsErrOf result IndexAnswer.ReadFault) }
 {
-    let mut window = Window::new(alloc, ROW)?;
+    let mut window = Window::new(alloc, WINDOW)?;
     if !window.pass_header(alloc, folder, name, &format.index_header())? {
         let why = header_fault(alloc, format, folder, name, &mut window)?;
         return Err(IndexAnswer::Bad { row: 0, why });

@@ -1,24 +1,22 @@
 //! A reader of logs.
-ghost use Rattle.std.specs.Prelude.{◌≡◌, ◌-◌, ◌<◌, ◌≤◌, List, Some, All, length, take, is_some, IsTrue, IfOk, IfSome, OnOk, OnErr};
+ghost use Rattle.std.specs.Prelude.{◌≡◌, ◌-◌, ◌<◌, ◌≤◌, List, Some, All, length, take, is_some, IsTrue, IfOk, IfSome, OnOk, OnErr, IsErrOf};
 ghost use Rattle.log_format.specs.declared.record.Record.{Record};
 ghost use Rattle.log_format.specs.Format.{log_header};
 ghost use Rattle.log_format.specs.Spelling.{spelling, log_bytes};
 ghost use Rattle.log_format.specs.Table.{IsTabled};
-ghost use Rattle.sw_base.specs.Environment.{WhereTold, HasCause};
+ghost use Rattle.sw_base.specs.Environment.{WhereTold};
+ghost use Rattle.sw_base.specs.OnlyReads.{OnlyReads};
 ghost use Rattle.sw_base.specs.Names.{log_name};
 ghost use Rattle.sw_base.specs.Window.{skipped};
 ghost use Rattle.log_reader.specs.Reading.{StandsBefore, GivesNext};
 
-use log_format::{FORMAT, Format, Record, decode_as};
+use log_format::{FORMAT, Format, RECORD_SIZE, Record, decode_as};
 use std::alloc::Global;
 use std::marker::Model;
 use sw_base::{Folder, Memory, Path, Trouble, Window};
 
 /// How many bytes of a log are read at once: 2,730 records.
 const WINDOW: usize = 65_520;
-
-/// The bytes of a record.
-const RECORD: usize = 24;
 
 /// Reads the records of one log after another, through one window.
 #[derive(Drop)]
@@ -48,7 +46,7 @@ fn first_record(format: Format, bytes: &[u8]) -> Option<Record>
     ensures found { (r : Record) → IsTabled format r → take 24 bytes.now ≡ spelling r → result ≡ Some r }
     ensures whole { IfSome result (λ r. 24 ≤ length bytes.now) }
 {
-    match bytes.split_first_chunk::<RECORD>() {
+    match bytes.split_first_chunk::<RECORD_SIZE>() {
         Some((first, _)) => decode_as(format, first).ok(),
         None => None,
     }
@@ -82,8 +80,7 @@ impl LogReader {
         ensures most { self.new.left ≤ records }
         ensures none { OnErr result (self.new.left ≡ 0) }
 
-        ensures same { F.state folder.new ≡ F.state folder.old }
-        ensures cause { HasCause (F.read_faults folder.old) (F.read_faults folder.new) result }
+        ensures reads { OnlyReads F.Folder folder.old folder.new (IsErrOf result Trouble.Failed) }
     {
         self.left = 0;
         self.format = format;
@@ -104,7 +101,7 @@ impl LogReader {
         requires ahead { 24 ≤ length self.old.window.ahead }
         ensures { self.new ≡ record self.old { window = skipped 24 self.old.window; left = self.old.left - 1 } }
     {
-        self.window.skip(RECORD);
+        self.window.skip(RECORD_SIZE);
         self.left -= 1;
     }
 
@@ -119,13 +116,13 @@ impl LogReader {
         ensures fewer { IfOk result (λ answer. IsTrue (is_some answer) → self.new.left < self.old.left) }
         ensures ended { IfOk result (λ answer. answer ≡ None → self.new.left ≡ 0) }
 
-        ensures same { F.state folder.new ≡ F.state folder.old }
-        ensures cause { HasCause (F.read_faults folder.old) (F.read_faults folder.new) result }
+        ensures reads { OnlyReads F.Folder folder.old folder.new (IsErrOf result Trouble.Failed) }
     {
         if self.left == 0 {
             return Ok(None);
         }
-        self.window.fill(alloc, folder, self.name.as_str(), RECORD)?;
+        self.window
+            .fill(alloc, folder, self.name.as_str(), RECORD_SIZE)?;
         let Some(next) = first_record(self.format, self.window.ahead()) else {
             self.left = 0;
             return Ok(None);

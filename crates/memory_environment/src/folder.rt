@@ -216,7 +216,7 @@ impl Folder for MemFolder {
 
         ensures same { state_of self.new ≡ state_of self.old }
         ensures cause { HasCause (read_faults_of self.old) (read_faults_of self.new) result }
-        ensures no_fault { OnOk result (read_faults_of self.new ≡ read_faults_of self.old) }
+        ensures no_fault { (IsErrOf result Trouble.Failed → ⊥) → read_faults_of self.new ≡ read_faults_of self.old }
 
         ensures counts { CountsRead (IsErrOf result Trouble.Failed) self.old self.new }
         ensures no_memory { IsErrOf result Trouble.Memory → ⊥ }
@@ -241,7 +241,7 @@ impl Folder for MemFolder {
 
         ensures same { state_of self.new ≡ state_of self.old }
         ensures cause { HasCause (read_faults_of self.old) (read_faults_of self.new) result }
-        ensures no_fault { OnOk result (read_faults_of self.new ≡ read_faults_of self.old) }
+        ensures no_fault { (IsErrOf result Trouble.Failed → ⊥) → read_faults_of self.new ≡ read_faults_of self.old }
 
         ensures counts { CountsRead (IsErrOf result Trouble.Failed) self.old self.new }
         ensures no_memory { IsErrOf result Trouble.Memory → ⊥ }

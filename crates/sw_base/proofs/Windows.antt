@@ -1,8 +1,8 @@
 -- What is known of the bytes that were read ahead.
-use Rattle.std.proofs.Common.{◌≡◌, inl, inr, sym, ap, ◌∙◌, arith, ℕ, ◌+◌, ◌-◌, ◌<◌, ◌≤◌, List, ◌++◌, length, take, drop, length-append, length-take, length-drop}
-use Rattle.std.proofs.Math.Seq.{take-add}
+use Rattle.std.proofs.Common.{◌≡◌, inl, inr, sym, ap, subst, ◌∙◌, arith, ℕ, ◌+◌, ◌-◌, ◌<◌, ◌≤◌, List, ◌++◌, length, take, drop, length-append, length-take, length-drop}
+use Rattle.std.proofs.Math.Seq.{take-add, take-append-add}
 use Rattle.std.proofs.lemmas.Bool.{cases_lt}
-use Rattle.std.proofs.lemmas.List.{take_all, take-take, drop-drop, drop-take}
+use Rattle.std.proofs.lemmas.List.{take_all, take-take, take-append-le, drop-drop, drop-take}
 use Rattle.sw_base.specs.Environment.{Reads}
 use Rattle.sw_base.specs.Window.{Window, Shows, skipped}
 
@@ -23,6 +23,15 @@ module _ (place : ℕ) (bytes file : List ℕ) (shows : bytes ≡ take (length b
 
       count : length (bytes ++ take n chunk) ≡ length bytes + n
       count = omega (arith, length-append bytes (take n chunk), taken)
+
+  -- one read more, into the free end
+  pub shows_put : (kept chunk past : List ℕ) (to n : ℕ) → kept ≡ bytes → length kept ≡ to → n ≤ length chunk → Reads file (place + length bytes) n chunk
+      → Shows (record { place = place; ahead = take (to + n) (kept ++ (chunk ++ past)) }) file
+  shows_put kept chunk past to n is long fits reads =
+      subst (λ (bs : List ℕ). Shows (record { place = place; ahead = bs }) file)
+      (sym (ap (λ (m : ℕ). take (m + n) (kept ++ (chunk ++ past))) (sym long) ∙ take-append-add kept (chunk ++ past) n
+      ∙ ap (λ (xs : List ℕ). kept ++ xs) (take-append-le n chunk past fits) ∙ ap (λ (xs : List ℕ). xs ++ take n chunk) is))
+      (shows_more chunk n reads)
 
   -- so many bytes are there
   pub shows_enough : (count : ℕ) → count ≤ length bytes → take count bytes ≡ take count (drop place file)

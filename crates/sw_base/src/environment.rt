@@ -124,7 +124,7 @@ pub trait Folder {
 
         ensures same { state self.new ≡ state self.old }
         ensures cause { HasCause (read_faults self.old) (read_faults self.new) result }
-        ensures no_fault { OnOk result (read_faults self.new ≡ read_faults self.old) };
+        ensures no_fault { (IsErrOf result Trouble.Failed → ⊥) → read_faults self.new ≡ read_faults self.old };
 
     /// Reads bytes of the named file, from the place `at` on, into the start of `into`, and answers how many. A file that
     /// isn't there is read as one without a byte. Fewer may come than `into` has room for, but none only at the end or where
@@ -141,7 +141,7 @@ pub trait Folder {
 
         ensures same { state self.new ≡ state self.old }
         ensures cause { HasCause (read_faults self.old) (read_faults self.new) result }
-        ensures no_fault { OnOk result (read_faults self.new ≡ read_faults self.old) };
+        ensures no_fault { (IsErrOf result Trouble.Failed → ⊥) → read_faults self.new ≡ read_faults self.old };
 
     /// The named file, before its first byte. `None` where there is none.
     fn open_file(&mut self, alloc: Global, name: &str) -> Result<Option<Self::File>, Trouble>

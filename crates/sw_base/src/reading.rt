@@ -1,6 +1,7 @@
 //! Reads a whole file of a folder.
-ghost use Rattle.std.specs.Prelude.{◌≡◌, Some, None, IfOk, MatchOption};
-ghost use Rattle.sw_base.specs.Environment.{WhereTold, HasCause};
+ghost use Rattle.std.specs.Prelude.{◌≡◌, Some, None, IfOk, IsErrOf, MatchOption};
+ghost use Rattle.sw_base.specs.Environment.{WhereTold};
+ghost use Rattle.sw_base.specs.OnlyReads.{OnlyReads};
 
 use crate::environment::Folder;
 use crate::trouble::Trouble;
@@ -18,8 +19,7 @@ pub fn read_file<F: Folder>(
     ensures read { IfOk result (λ file. WhereTold (F.state folder.old).content (λ c.
         MatchOption file (c.held name.now ≡ None) (λ bytes. c.held name.now ≡ Some bytes.items))) }
 
-    ensures same { F.state folder.new ≡ F.state folder.old }
-    ensures cause { HasCause (F.read_faults folder.old) (F.read_faults folder.new) result }
+    ensures reads { OnlyReads F.Folder folder.old folder.new (IsErrOf result Trouble.Failed) }
 {
     let Some(size) = folder.size(alloc, name)? else {
         return Ok(None);

@@ -1,6 +1,7 @@
 //! Reads a file of a folder from its start on, a window at a time.
-ghost use Rattle.std.specs.Prelude.{◌≡◌, ◌+◌, ◌^◌, ◌<◌, ◌≤◌, ◌≢◌, ◌++◌, length, take, drop, IsTrue, IsFalse, IfOk, OnOk};
-ghost use Rattle.sw_base.specs.Environment.{WhereTold, HasCause};
+ghost use Rattle.std.specs.Prelude.{◌≡◌, ◌+◌, ◌-◌, ◌^◌, ◌<◌, ◌≤◌, ◌≢◌, ◌++◌, length, take, drop, IsTrue, IsFalse, IfOk, OnOk, IsErrOf};
+ghost use Rattle.sw_base.specs.Environment.{WhereTold};
+ghost use Rattle.sw_base.specs.OnlyReads.{OnlyReads};
 ghost use Rattle.sw_base.specs.Window.{at_start, skipped, file_of, Shows, ShowsNext};
 
 use crate::environment::Folder;
@@ -14,75 +15,88 @@ use std::marker::Model;
 pub struct Window {
     /// Where in the file the next byte stands.
     place: u64,
-    /// Bytes that were read. Of these so many were passed.
+    /// Room for what is read. The bytes ahead are those from here to there.
     bytes: Vec<u8>,
-    passed: usize,
-    /// What one read fills.
-    chunk: Vec<u8>,
+    from: usize,
+    to: usize,
 }
 
 impl Model for Window {
-    ghost use Rattle.std.specs.Prelude.{◌^◌, ◌<◌, ◌≤◌, length, drop};
+    ghost use Rattle.std.specs.Prelude.{◌^◌, ◌<◌, ◌≤◌, length, take, drop};
     ghost use Rattle.sw_base.specs.Window.{Window as Ahead};
 
     ghost Value = { Ahead };
 
-    ghost view = { λ w. record { place = w.place; ahead = drop w.passed w.bytes.items } };
+    ghost view = { λ w. record { place = w.place; ahead = drop w.from (take w.to w.bytes.items) } };
 
-    ghost invariant = { λ w. (w.place < 2 ^ 63) × (w.passed ≤ length w.bytes.items) × (0 < length w.chunk.items) };
+    ghost invariant = { λ w. (w.place < 2 ^ 63) × (w.from ≤ w.to) × (w.to ≤ length w.bytes.items) };
 }
 
-/// Takes so many bytes from the front.
-fn drop_first(bytes: &mut Vec<u8>, count: usize)
-    requires { count ≤ length bytes.old.items }
-    ensures { bytes.new.items ≡ drop count bytes.old.items }
+/// Moves these bytes to the front.
+fn move_front(bytes: &mut Vec<u8>, from: usize, to: usize)
+    requires from { from ≤ to }
+    requires to { to ≤ length bytes.old.items }
+    ensures length { length bytes.new.items ≡ length bytes.old.items }
+    ensures front { take (to - from) bytes.new.items ≡ drop from (take to bytes.old.items) }
 {
-    let left = bytes.len() - count;
-    bytes.copy_within(count.., 0);
-    bytes.truncate(left);
+    bytes.copy_within(from..to, 0);
 }
 
-/// Reads on until so many bytes are there, or the file ends.
+/// Makes room for so many bytes. The first stay.
+fn make_room(bytes: &mut Vec<u8>, to: usize, count: usize) -> Result<(), Memory>
+    requires { to ≤ length bytes.old.items }
+    ensures same { take to bytes.new.items ≡ take to bytes.old.items }
+    ensures longer { length bytes.old.items ≤ length bytes.new.items }
+    ensures room { OnOk result (count ≤ length bytes.new.items) }
+{
+    if bytes.len() < count {
+        bytes.resize(count, 0)?;
+    }
+    Ok(())
+}
+
+/// Reads on into the free end until so many bytes are there, or the file ends. There are so many before and after.
 fn read_on<F: Folder>(
     alloc: Global,
     folder: &mut F,
     name: &str,
     place: u64,
-    bytes: &mut Vec<u8>,
-    chunk: &mut [u8],
+    bytes: &mut [u8],
+    to: &mut usize,
     count: usize,
 ) -> Result<(), Trouble>
     requires place { place < 2 ^ 63 }
-    requires chunk { 0 < length chunk.old }
-    ensures shows { WhereTold (F.state folder.old).content (λ c. Shows (record { place = place; ahead = bytes.old.items }) (file_of c name.now)
-        → Shows (record { place = place; ahead = bytes.new.items }) (file_of c name.now)) }
-    ensures next { OnOk result (WhereTold (F.state folder.old).content (λ c. Shows (record { place = place; ahead = bytes.old.items }) (file_of c name.now)
-        → ShowsNext count (record { place = place; ahead = bytes.new.items }) (file_of c name.now))) }
+    requires to { to.old ≤ length bytes.old }
+    requires room { count ≤ length bytes.old }
+    ensures length { length bytes.new ≡ length bytes.old }
+    ensures within { to.new ≤ length bytes.old }
+    ensures shows { WhereTold (F.state folder.old).content (λ c. Shows (record { place = place; ahead = take to.old bytes.old }) (file_of c name.now)
+        → Shows (record { place = place; ahead = take to.new bytes.new }) (file_of c name.now)) }
+    ensures next { OnOk result (WhereTold (F.state folder.old).content (λ c. Shows (record { place = place; ahead = take to.old bytes.old }) (file_of c name.now)
+        → ShowsNext count (record { place = place; ahead = take to.new bytes.new }) (file_of c name.now))) }
 
-    ensures same { F.state folder.new ≡ F.state folder.old }
-    ensures cause { HasCause (F.read_faults folder.old) (F.read_faults folder.new) result }
+    ensures reads { OnlyReads F.Folder folder.old folder.new (IsErrOf result Trouble.Failed) }
 {
-    'reads: while bytes.len() < count {
-        let more = folder.read(alloc, name, place + bytes.len() as u64, chunk)?;
+    'reads: while *to < count {
+        let more = folder.read(alloc, name, place + *to as u64, &mut bytes[*to..])?;
         if more == 0 {
             return Ok(());
         }
-        bytes.extend_from_slice(&chunk[..more])?;
+        *to += more;
     }
     Ok(())
 }
 
 impl Window {
-    /// A window for files, of which it reads at most so many bytes at once.
+    /// A window for files, with room for so many bytes.
     pub fn new(alloc: Global, size: usize) -> Result<Window, Memory>
-        requires { 0 < size }
         ensures { IfOk result (λ window. window ≡ at_start) }
     {
         Ok(Window {
             place: 0,
-            bytes: Vec::new(alloc),
-            passed: 0,
-            chunk: vec![in alloc; 0; size]?,
+            bytes: vec![in alloc; 0; size]?,
+            from: 0,
+            to: 0,
         })
     }
 
@@ -91,8 +105,8 @@ impl Window {
         ensures { self.new ≡ at_start }
     {
         self.place = 0;
-        self.bytes.clear();
-        self.passed = 0;
+        self.from = 0;
+        self.to = 0;
     }
 
     /// Reads on in the named file until so many bytes are ahead, or the file ends.
@@ -107,30 +121,33 @@ impl Window {
         ensures shows { WhereTold (F.state folder.old).content (λ c. Shows self.old (file_of c name.now) → Shows self.new (file_of c name.now)) }
         ensures next { OnOk result (WhereTold (F.state folder.old).content (λ c. Shows self.old (file_of c name.now) → ShowsNext count self.new (file_of c name.now))) }
 
-        ensures same { F.state folder.new ≡ F.state folder.old }
-        ensures cause { HasCause (F.read_faults folder.old) (F.read_faults folder.new) result }
+        ensures reads { OnlyReads F.Folder folder.old folder.new (IsErrOf result Trouble.Failed) }
     {
-        if self.bytes.len() - self.passed >= count {
+        let ahead = self.to - self.from;
+        if ahead >= count {
             return Ok(());
         }
-        drop_first(&mut self.bytes, self.passed);
-        self.passed = 0;
+        move_front(&mut self.bytes, self.from, self.to);
+        self.from = 0;
+        self.to = ahead;
+        make_room(&mut self.bytes, ahead, count)?;
         read_on(
             alloc,
             folder,
             name,
             self.place,
             &mut self.bytes,
-            &mut self.chunk,
+            &mut self.to,
             count,
-        )
+        )?;
+        Ok(())
     }
 
     /// The bytes that are ahead.
     pub fn ahead(&self) -> &[u8]
         ensures { result.now ≡ self.now.ahead }
     {
-        &self.bytes[self.passed..]
+        &self.bytes[self.from..self.to]
     }
 
     /// Passes so many of the bytes ahead.
@@ -140,7 +157,7 @@ impl Window {
         ensures { self.new ≡ skipped count self.old }
     {
         self.place += count as u64;
-        self.passed += count;
+        self.from += count;
     }
 
     /// Passes the first eight bytes of the named file, where they are these. Else false.
@@ -157,8 +174,7 @@ impl Window {
             Shows self.new (file_of c name.now) × (file_of c name.now ≡ header.now ++ drop 8 (file_of c name.now)))) }
         ensures other { IfOk result (λ passed. IsFalse passed → WhereTold (F.state folder.old).content (λ c. take 8 (file_of c name.now) ≢ header.now)) }
 
-        ensures same { F.state folder.new ≡ F.state folder.old }
-        ensures cause { HasCause (F.read_faults folder.old) (F.read_faults folder.new) result }
+        ensures reads { OnlyReads F.Folder folder.old folder.new (IsErrOf result Trouble.Failed) }
     {
         self.fill(alloc, folder, name, 8)?;
         if !self.ahead().starts_with(header) {

@@ -11,7 +11,7 @@ invariant-rows g l = record {
   place : l.window.place ≡ 8 + 48 * length l.rows.items;
   told : WhereTold (g.F.Folder.state l.fn.folder).content (λ c. Shows l.fn.window (file_of c l.name) → IsReadTo (file_of c l.name) l.rows.items l.window);
   same : g.F.Folder.state l.folder ≡ g.F.Folder.state l.fn.folder;
-  later : g.F.Folder.read_faults l.fn.folder ≤ g.F.Folder.read_faults l.folder;
+  no_fault : g.F.Folder.read_faults l.folder ≡ g.F.Folder.read_faults l.fn.folder;
 }
 
 abbrev pub decreases-rows : goal.decreases-rows

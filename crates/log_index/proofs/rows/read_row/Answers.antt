@@ -20,8 +20,8 @@ returns-in_err-add_row-clause-bad g c =
           first_left c.ahead-2.result.now (drop c.args.window.now.place file) next raws why bad.1,
     ))
 
-pub returns-clause-reads : goal.returns-clause-reads
-returns-clause-reads g c = λ more x told shows.
+pub returns-clause-row : goal.returns-clause-row
+returns-clause-row g c = λ more x told shows.
     let file : List ℕ = file_of x c.args.name.now in
     let next : take 48 c.ahead-2.result.now ≡ take 48 (drop c.args.window.now.place file) =
     ap (λ (bs : List ℕ). take 48 bs) c.ahead-2.ensures ∙ c.in_ok-fill.ensures.next x told shows

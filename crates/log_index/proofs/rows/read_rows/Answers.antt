@@ -15,7 +15,7 @@ returns-in_err-rows-clause-bad g c =
     rw (p.1, p.2) (λ n why is x told.
     let file : List ℕ = file_of x c.args.name.now in
     let passed = c.in_ok-pass_header.ensures.passed c.if-not-branch.false x told in
-    stops_first c.args.format file (drop 8 file) (passed.1 ∙ ap (λ (header : List ℕ). header ++ drop 8 file) c.index_header.ensures) n why (c.in_err-rows.ensures.bad n why is x (ap (λ s. s.content) c.in_ok-pass_header.ensures.same ∙ told) passed.0))
+    stops_first c.args.format file (drop 8 file) (passed.1 ∙ ap (λ (header : List ℕ). header ++ drop 8 file) c.index_header.ensures) n why (c.in_err-rows.ensures.bad n why is x (ap (λ s. s.content) c.in_ok-pass_header.ensures.reads.same ∙ told) passed.0))
 
 pub returns-clause-bad : goal.returns-clause-bad
 returns-clause-bad g c = λ n why is x told.
@@ -27,5 +27,5 @@ returns-clause-bad g c = λ n why is x told.
     let fails : FailsIndexFirst (map raw_of c.in_ok-rows.rows.items) [] c.in-Err.why =
     subst (λ (rows : List Row). FailsIndexFirst (map raw_of rows) [] c.in-Err.why) c.deref.ensures.value c.in-Err.ensures.fails in
     let first : IsFirstBadRow c.args.format file (length c.in_ok-rows.rows.items + 1) c.in-Err.why =
-    end_first c.args.format file (drop 8 file) (passed.1 ∙ ap (λ (header : List ℕ). header ++ drop 8 file) c.index_header.ensures) c.in_ok-rows.rows.items c.in-Err.why (c.in_ok-rows.ensures.rows x (ap (λ s. s.content) c.in_ok-pass_header.ensures.same ∙ told) passed.0) fails in
+    end_first c.args.format file (drop 8 file) (passed.1 ∙ ap (λ (header : List ℕ). header ++ drop 8 file) c.index_header.ensures) c.in_ok-rows.rows.items c.in-Err.why (c.in_ok-rows.ensures.rows x (ap (λ s. s.content) c.in_ok-pass_header.ensures.reads.same ∙ told) passed.0) fails in
     subst (λ (m : ℕ). IsFirstBadRow c.args.format file m why) (sym number) (subst (λ (w : IndexWhy). IsFirstBadRow c.args.format file (length c.in_ok-rows.rows.items + 1) w) (sym parts.1) first)

@@ -7,7 +7,7 @@ use Rattle.sw_base.proofs.reading.read_file.Goals as goal
 pub windows-init : goal.windows-init
 windows-init g c = record {
   same = search rules;
-  later = search rules;
+  no_fault = search rules;
   prefix = subst (λ (bs : List ℕ). ToldPrefix (g.F.Folder.state c.args.folder.now).content c.args.name.now bs) (sym c.new-bytes.ensures.items) (told_none _ _);
 }
 
@@ -19,6 +19,6 @@ windows-preserved g c =
     let more : ToldPrefix (g.F.Folder.state c.args.folder.now).content c.args.name.now (c.windows.bytes.items ++ take c.in_ok-count.count c.read.new.into) = told_more _ _ _ _ _ c.windows.invariant.prefix reads in
     record {
       same = search rules;
-      later = search rules;
+      no_fault = search rules;
       prefix = search rules;
     }
