@@ -1,6 +1,7 @@
 #!/usr/bin/env python3
 """What `sword` says and leaves where real files fail: a disk that fills up, a folder without rights, names that are links, a log that is removed while
-`show` reads, a run that is killed, two runs at once. Each case has the status and the text that README.md promises; after each one the rest of the place is as it was.
+`show` reads, a run that is killed, two runs at once. Each case has the status and the text that README.md promises; after each one the rest of the place
+is as it was.
 
 A full disk needs a small file system in memory, which root alone may mount, and a folder without rights another user, whom root alone may become.
 Where they can't be had these cases are skipped, and it says so.
