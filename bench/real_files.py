@@ -1,6 +1,7 @@
 #!/usr/bin/env python3
 """What `sword` says and leaves where real files fail: a disk that fills up, a folder without rights, names that are links, a log that is removed while
-`show` reads, a run that is killed. Each case has the status and the text that README.md promises; after each one the rest of the place is as it was.
+`show` reads, a run that is killed, two runs at once. Each case has the status and the text that README.md promises; after each one the rest of the place
+is as it was.
 
 A full disk needs a small file system in memory, which root alone may mount, and a folder without rights another user, whom root alone may become.
 Where they can't be had these cases are skipped, and it says so.
@@ -229,6 +230,7 @@ def links(cases):
     cases.due("check of a link to itself", (6, ""), "check", cases.path("loop"), 1)
     cases.due("check of a file", (4, "no index\n"), "check", kernel, 1)
     cases.due("run of a folder as the kernel", (6, ""), "run", moved, cases.path("unmade"), 4096)
+    cases.due("run of a kernel from a pipe", (6, ""), "run", "/dev/stdin", cases.path("unmade"), 4096, input=KERNEL.encode())
     cases.tell("nothing was made", not os.path.exists(cases.path("unmade")) and not os.path.exists(cases.path("nowhere")), "it was")
     os.unlink(os.path.join(folder, "index.swi"))
     os.mkdir(os.path.join(folder, "index.swi"))
@@ -335,6 +337,25 @@ def parts_of_an_index(cases):
     cases.tell(f"{len(lengths)} parts of an index: check refuses it, run ends with status 9", not wrong, wrong[:3])
 
 
+# Two runs at once into one folder.
+
+def two_at_once(cases):
+    """Each empties the logs that it begins, so one of them finds another end of a log than it left. Both may be done where one came later."""
+    folder, kernel = cases.path("twice"), cases.path("long-kernel")
+    ends = {}
+    for number in range(20):
+        runs = [subprocess.Popen([cases.sword, "run", kernel, folder, "24"], stdout=subprocess.PIPE) for _ in range(2)]
+        for run in runs:
+            run.communicate(timeout=120)
+        statuses = sorted(run.returncode for run in runs)
+        checked = cases.ask("check", folder, 1)
+        holds = 7 in statuses or checked == (0, "races 0\n")
+        ends[str(statuses)] = ends.get(str(statuses), 0) + 1
+        cases.tell(f"two runs at once, {number}: one fails, or the folder is whole", holds, (statuses, checked))
+        shutil.rmtree(folder, ignore_errors=True)
+    print(f"    (two runs at once: {ends})")
+
+
 HAS_INDEX = "index exists\n"
 NO_KERNEL = "no kernel\n"
 
@@ -351,7 +372,7 @@ def main(words):
         cases = Cases(program, place)
         write(cases.path("kernel"), KERNEL)
         write(cases.path("long-kernel"), LONG)
-        for group in (full_disks, rights, links, between_readings, killed):
+        for group in (full_disks, rights, links, between_readings, killed, two_at_once):
             group(cases)
     print(f"{cases.count} cases, {cases.failed} wrong")
     return 1 if cases.failed else 0

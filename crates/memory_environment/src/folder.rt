@@ -97,12 +97,8 @@ impl MemFolder {
         ensures same_logs { (plans_of self.new).logs ≡ (plans_of self.old).logs }
         ensures same { IsSame self.old self.new }
     {
-        store(
-            &mut self.file_plans,
-            self.alloc,
-            name,
-            reads.to_vec(self.alloc)?,
-        )
+        let reads = reads.to_vec(self.alloc)?;
+        store(&mut self.file_plans, self.alloc, name, reads)
     }
 
     /// Makes the name hold the bytes. It is no call that is counted. Where there is no memory nothing changes.
@@ -113,7 +109,8 @@ impl MemFolder {
         ensures uncounted { IsUncounted self.old self.new }
         ensures same_failing { failing_of self.new ≡ failing_of self.old }
     {
-        store(&mut self.files, self.alloc, name, bytes.to_vec(self.alloc)?)
+        let bytes = bytes.to_vec(self.alloc)?;
+        store(&mut self.files, self.alloc, name, bytes)
     }
 
     /// The bytes of the named file. `None` where there is none.
@@ -179,13 +176,9 @@ impl MemFolder {
     {
         let name = log.name(alloc)?;
         let lengths = log.lengths().to_vec(alloc)?;
+        let bytes = log.bytes().to_vec(alloc)?;
         self.sealed.try_reserve(1)?;
-        store(
-            &mut self.files,
-            alloc,
-            name.as_str(),
-            log.bytes().to_vec(alloc)?,
-        )?;
+        store(&mut self.files, alloc, name.as_str(), bytes)?;
         self.sealed.push(SealedLog { name, lengths }).unwrap();
         Ok(())
     }

@@ -1,6 +1,6 @@
 //! Why a call gives up: no memory was found, or the environment failed.
-ghost use Rattle.std.specs.Prelude.{◌≡◌};
-ghost use Rattle.sw_base.specs.Environment.{TakesFaults};
+ghost use Rattle.std.specs.Prelude.{◌≡◌, ◌<◌};
+ghost use Rattle.sw_base.specs.Environment.{TakesFaults, next_count};
 
 use std::alloc::{AllocError, AllocFailed};
 
@@ -65,6 +65,7 @@ impl<T: Drop> From<AllocFailed<T>> for Trouble {
 /// Counts one fault more where a log or a file with faults came back.
 pub fn take_faults(faults: &mut u64, of_part: u64)
     ensures takes { TakesFaults of_part faults.old faults.new }
+    ensures some { 0 < of_part → faults.new ≡ next_count faults.old }
     ensures none { of_part ≡ 0 → faults.new ≡ faults.old }
 {
     if of_part > 0 {

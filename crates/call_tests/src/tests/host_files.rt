@@ -184,7 +184,7 @@ fn what_can_not_be_written_is_a_fault(rt: HostRuntime) -> Result<(), Fail> {
     fs::remove_file(&rt, &name).expect(&rt, "no file");
     fs::create_dir(&rt, &name).expect(&rt, "a folder");
     assert!(rt; root.append(alloc, b"bytes") == Err(Trouble::Failed));
-    assert!(rt; read_file(alloc, &mut folder, &name).is_err());
+    assert!(rt; folder.read(alloc, &name, 0, &mut [0; 8]) == Err(Trouble::Failed));
     assert!(rt; folder.faults() == (1, 2));
     // The folder counts the fault of a log that is given back.
     folder.discard(root);
