@@ -1,6 +1,7 @@
 ghost use Rattle.std.specs.Prelude.{◌≡◌, ◌≤◌, [], IfOk, IfErr, IsErrOf, OnOk};
 ghost use Rattle.log_format.specs.declared.format.TheConstants.{FORMAT};
-ghost use Rattle.sw_base.specs.Environment.{Rose, WhereTold};
+ghost use Rattle.sw_base.specs.Environment.{WhereTold};
+ghost use Rattle.sw_base.specs.OnlyReads.{OnlyReads};
 ghost use Rattle.log_walk.specs.Walk.{TellsFirstBad};
 ghost use Rattle.pair_compare.specs.Compare.{IsSegmentPair};
 ghost use Rattle.pair_compare.specs.Conflict.{AddsPairs};
@@ -67,9 +68,7 @@ pub fn folder_pairs<R: Threads + Sync, F: Folder, G: Gate>(
     ensures pairs { IfOk result (λ pairs. AreFolderPairs (F.state folder.old).content dir.now pairs.keys) }
     ensures refused { IfErr result (λ e. WhereTold (F.state folder.old).content (λ c. TellsFirstBad FORMAT c.held dir.now e)) }
 
-    ensures same { F.state folder.new ≡ F.state folder.old }
-    ensures later { F.read_faults folder.old ≤ F.read_faults folder.new }
-    ensures cause { IsErrOf result WalkFault.ReadFault → Rose (F.read_faults folder.old) (F.read_faults folder.new) }
+    ensures reads { OnlyReads F.Folder folder.old folder.new (IsErrOf result WalkFault.ReadFault) }
 {
     let mut pairs = BTreeSet::new(alloc);
     let (mut sweep, _root) = Sweep::open(alloc, folder, dir)?;

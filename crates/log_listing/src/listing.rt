@@ -2,6 +2,7 @@
 ghost use Rattle.std.specs.Prelude.{◌≡◌, ◌^◌, ◌<◌, ◌≤◌, List, length, is_some, IsTrue, IfOk, OnOk, OnErr, IsErrOf, string_bytes};
 ghost use Rattle.log_format.specs.declared.format.TheConstants.{FORMAT};
 ghost use Rattle.sw_base.specs.Environment.{WhereTold, Rose, GainsPrefix, gained};
+ghost use Rattle.sw_base.specs.OnlyReads.{OnlyReads};
 ghost use Rattle.log_format.specs.declared.record.Record.{Record};
 ghost use Rattle.log_reader.specs.Reading.{StandsBefore, GivesNext};
 ghost use Rattle.race_model.specs.FirstBad.{HoldsLogs, rows_of};
@@ -25,9 +26,7 @@ fn next_record<F: Folder>(
 ) -> Result<Option<Record>, Unlisted>
     ensures gives { WhereTold (F.state folder.old).content (λ c. (events : List Record) → StandsBefore c reader.old events → IfOk result (λ answer. GivesNext c events answer reader.new)) }
     ensures fewer { IfOk result (λ answer. IsTrue (is_some answer) → reader.new.left < reader.old.left) }
-    ensures same { F.state folder.new ≡ F.state folder.old }
-    ensures later { F.read_faults folder.old ≤ F.read_faults folder.new }
-    ensures read_cause { IsErrOf result Unlisted.ReadFault → Rose (F.read_faults folder.old) (F.read_faults folder.new) }
+    ensures reads { OnlyReads F.Folder folder.old folder.new (IsErrOf result Unlisted.ReadFault) }
     ensures no_write { IsErrOf result Unlisted.WriteFault → ⊥ }
 {
     match reader.next(alloc, folder) {
@@ -46,9 +45,7 @@ fn open_log<F: Folder>(
 ) -> Result<(), Unlisted>
     ensures stands { OnOk result (WhereTold (F.state folder.old).content (λ c. (events : List Record) → IsWholeLog FORMAT c.held dir.now path.now events → records ≡ length events → StandsBefore c reader.new events)) }
     ensures most { reader.new.left ≤ records }
-    ensures same { F.state folder.new ≡ F.state folder.old }
-    ensures later { F.read_faults folder.old ≤ F.read_faults folder.new }
-    ensures read_cause { IsErrOf result Unlisted.ReadFault → Rose (F.read_faults folder.old) (F.read_faults folder.new) }
+    ensures reads { OnlyReads F.Folder folder.old folder.new (IsErrOf result Unlisted.ReadFault) }
     ensures no_write { IsErrOf result Unlisted.WriteFault → ⊥ }
 {
     match reader.open(alloc, FORMAT, folder, dir, path, records) {
@@ -68,9 +65,7 @@ fn list_records<F: Folder, O: Out>(
     requires { reader.old.left < 2 ^ 32 }
     ensures done { WhereTold (F.state folder.old).content (λ c. (events : List Record) → StandsBefore c reader.old events → OnOk result (PrintsInPieces (O.written out.old) (string_bytes lines.old) (O.written out.new) (string_bytes lines.new) (records_text events))) }
     ensures refused { WhereTold (F.state folder.old).content (λ c. (events : List Record) → StandsBefore c reader.old events → OnErr result (PrintsPrefix (O.written out.old) (string_bytes lines.old) (O.written out.new) (string_bytes lines.new) (records_text events))) }
-    ensures same { F.state folder.new ≡ F.state folder.old }
-    ensures later { F.read_faults folder.old ≤ F.read_faults folder.new }
-    ensures read_cause { IsErrOf result Unlisted.ReadFault → Rose (F.read_faults folder.old) (F.read_faults folder.new) }
+    ensures reads { OnlyReads F.Folder folder.old folder.new (IsErrOf result Unlisted.ReadFault) }
     ensures later_out { O.faults out.old ≤ O.faults out.new }
     ensures write_cause { IsErrOf result Unlisted.WriteFault → Rose (O.faults out.old) (O.faults out.new) }
 {
@@ -96,9 +91,7 @@ fn list_log<F: Folder, O: Out>(
         → OnOk result (PrintsInPieces (O.written out.old) (string_bytes lines.old) (O.written out.new) (string_bytes lines.new) (log_text path.now events))) }
     ensures refused { WhereTold (F.state folder.old).content (λ c. (events : List Record) → IsWholeLog FORMAT c.held dir.now path.now events → records ≡ length events
         → OnErr result (PrintsPrefix (O.written out.old) (string_bytes lines.old) (O.written out.new) (string_bytes lines.new) (log_text path.now events))) }
-    ensures same { F.state folder.new ≡ F.state folder.old }
-    ensures later { F.read_faults folder.old ≤ F.read_faults folder.new }
-    ensures read_cause { IsErrOf result Unlisted.ReadFault → Rose (F.read_faults folder.old) (F.read_faults folder.new) }
+    ensures reads { OnlyReads F.Folder folder.old folder.new (IsErrOf result Unlisted.ReadFault) }
     ensures later_out { O.faults out.old ≤ O.faults out.new }
     ensures write_cause { IsErrOf result Unlisted.WriteFault → Rose (O.faults out.old) (O.faults out.new) }
 {
@@ -120,9 +113,7 @@ fn list_rows<F: Folder, O: Out>(
         → OnOk result (PrintsInPieces (O.written out.old) (string_bytes lines.old) (O.written out.new) (string_bytes lines.new) (show_text trace))) }
     ensures refused { WhereTold (F.state folder.old).content (λ c. (trace : Trace) → rows_of trace ≡ rows.now → HoldsLogs FORMAT c.held dir.now trace
         → OnErr result (PrintsPrefix (O.written out.old) (string_bytes lines.old) (O.written out.new) (string_bytes lines.new) (show_text trace))) }
-    ensures same { F.state folder.new ≡ F.state folder.old }
-    ensures later { F.read_faults folder.old ≤ F.read_faults folder.new }
-    ensures read_cause { IsErrOf result Unlisted.ReadFault → Rose (F.read_faults folder.old) (F.read_faults folder.new) }
+    ensures reads { OnlyReads F.Folder folder.old folder.new (IsErrOf result Unlisted.ReadFault) }
     ensures later_out { O.faults out.old ≤ O.faults out.new }
     ensures write_cause { IsErrOf result Unlisted.WriteFault → Rose (O.faults out.old) (O.faults out.new) }
 {
@@ -155,9 +146,7 @@ pub fn list<F: Folder, O: Out>(
     ensures refused { WhereTold (F.state folder.old).content (λ c. (trace : Trace) → rows_of trace ≡ rows.now → HoldsLogs FORMAT c.held dir.now trace
         → OnErr result (GainsPrefix (O.written out.old) (O.written out.new) (show_text trace))) }
 
-    ensures same { F.state folder.new ≡ F.state folder.old }
-    ensures later { F.read_faults folder.old ≤ F.read_faults folder.new }
-    ensures read_cause { IsErrOf result Unlisted.ReadFault → Rose (F.read_faults folder.old) (F.read_faults folder.new) }
+    ensures reads { OnlyReads F.Folder folder.old folder.new (IsErrOf result Unlisted.ReadFault) }
     ensures later_out { O.faults out.old ≤ O.faults out.new }
     ensures write_cause { IsErrOf result Unlisted.WriteFault → Rose (O.faults out.old) (O.faults out.new) }
 {

@@ -6,7 +6,7 @@ ghost use Rattle.log_listing.specs.declared.unlisted.Unlisted.TheVariants as why
 use sw_base::{Memory, Trouble};
 
 /// Why not all was listed.
-#[derive(Clone, Copy, Debug, PartialEq, Eq)]
+#[derive(Clone, Copy, PartialEq, Eq)]
 pub enum Unlisted {
     /// A read failed.
     ReadFault,
@@ -29,7 +29,7 @@ impl From<Memory> for Unlisted {
 
 /// What a read that failed is.
 pub fn unread(trouble: Trouble) -> Unlisted
-    ensures read { result ≡ why.ReadFault → trouble ≡ troubles.Failed }
+    ensures read { (result ≡ why.ReadFault) ↔ (trouble ≡ troubles.Failed) }
     ensures write { result ≡ why.WriteFault → ⊥ }
 {
     match trouble {

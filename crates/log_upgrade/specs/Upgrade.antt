@@ -52,6 +52,7 @@ BringsPart new trace old now = (now ≡ Some old) ⊎ PutsLogs new trace (Some o
 pub record CountsFaults {T : Type 0} (reads reads' : ℕ) (before after : FolderState) (result : Result T UpgradeFault) : Type 0 where
   pub later : reads ≤ reads'
   pub only_reads : (w : WalkFault) → IsErrOf result (Walk w) → (w ≡ ReadFault) × Rose reads reads'
+  pub no_read_fault : (IsErrOf result (Walk ReadFault) → ⊥) → reads' ≡ reads
   pub write_later : before.write_faults ≤ after.write_faults
   pub write_cause : IsErrOf result WriteFault → Rose before.write_faults after.write_faults
   pub no_fault : OnOk result (after.write_faults ≡ before.write_faults)

@@ -38,6 +38,7 @@ fn is_memory(refused: &WalkFault) -> bool
 /// After a walk that was refused.
 pub fn unwalked(refused: WalkFault) -> UpgradeFault
     ensures walk { (w : WalkFault) → result ≡ upgrade.Walk w → (w ≡ refused) × (w ≡ fault.Memory → ⊥) }
+    ensures read { refused ≡ fault.ReadFault → result ≡ upgrade.Walk fault.ReadFault }
     ensures no_write { result ≡ upgrade.WriteFault → ⊥ }
 {
     if is_memory(&refused) {
@@ -49,6 +50,7 @@ pub fn unwalked(refused: WalkFault) -> UpgradeFault
 /// After a read that failed, or for which no memory was found.
 pub fn unread(trouble: Trouble) -> UpgradeFault
     ensures walk { (w : WalkFault) → result ≡ upgrade.Walk w → (w ≡ fault.ReadFault) × (trouble ≡ troubles.Failed) }
+    ensures read { trouble ≡ troubles.Failed → result ≡ upgrade.Walk fault.ReadFault }
     ensures no_write { result ≡ upgrade.WriteFault → ⊥ }
 {
     match trouble {

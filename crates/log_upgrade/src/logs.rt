@@ -1,11 +1,12 @@
 //! Logs of the first format, put into another folder.
-ghost use Rattle.std.specs.Prelude.{◌≡◌, List, Some, length, IfOk, OnErr, OnOk};
+ghost use Rattle.std.specs.Prelude.{◌≡◌, List, Some, length, IfOk, OnErr, OnOk, IsErrOf};
 ghost use Rattle.log_format.specs.declared.format.Format.TheVariants.{First};
 ghost use Rattle.log_format.specs.declared.format.TheConstants.{FORMAT};
 ghost use Rattle.log_format.specs.declared.record.Record.{Record};
 ghost use Rattle.log_format.specs.Format.{log_header};
 ghost use Rattle.log_format.specs.Spelling.{log_bytes};
 ghost use Rattle.sw_base.specs.Environment.{HasCause, LeavesPrefix, WhereTold, with_put};
+ghost use Rattle.sw_base.specs.OnlyReads.{OnlyReads};
 ghost use Rattle.sw_base.specs.Names.{log_name};
 ghost use Rattle.std.specs.Option.{option_map};
 ghost use Rattle.race_model.specs.LogFault.{IsWholeLog};
@@ -28,8 +29,7 @@ fn spell_records<F: Folder>(
     reader: &mut LogReader,
 ) -> Result<Vec<u8>, Trouble>
     ensures spelled { WhereTold (F.state folder.old).content (λ c. (events : List Record) → StandsBefore c reader.old events → IfOk result (λ bytes. bytes.items ≡ log_bytes (log_header FORMAT) events)) }
-    ensures same { F.state folder.new ≡ F.state folder.old }
-    ensures cause { HasCause (F.read_faults folder.old) (F.read_faults folder.new) result }
+    ensures reads { OnlyReads F.Folder folder.old folder.new (IsErrOf result Trouble.Failed) }
 {
     let mut bytes = Vec::from_slice(alloc, &FORMAT.log_header())?;
     'records: while let Some(next) = reader.next(alloc, folder)? {
@@ -49,8 +49,7 @@ fn spell_log<F: Folder>(
 ) -> Result<Vec<u8>, Trouble>
     ensures spelled { WhereTold (F.state folder.old).content (λ c. (events : List Record) → IsWholeLog First c.held dir.now path.now events → records ≡ length events
         → IfOk result (λ bytes. bytes.items ≡ log_bytes (log_header FORMAT) events)) }
-    ensures same { F.state folder.new ≡ F.state folder.old }
-    ensures cause { HasCause (F.read_faults folder.old) (F.read_faults folder.new) result }
+    ensures reads { OnlyReads F.Folder folder.old folder.new (IsErrOf result Trouble.Failed) }
 {
     reader.open(alloc, Format::First, folder, dir, path, records)?;
     spell_records(alloc, folder, reader)

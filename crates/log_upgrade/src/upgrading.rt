@@ -34,6 +34,7 @@ pub fn upgrade<F: Folder>(
 
     ensures later { F.read_faults folder.old ≤ F.read_faults folder.new }
     ensures cause { IsErrOf result (UpgradeFault.Walk fault.ReadFault) → Rose (F.read_faults folder.old) (F.read_faults folder.new) }
+    ensures no_read_fault { (IsErrOf result (UpgradeFault.Walk fault.ReadFault) → ⊥) → F.read_faults folder.new ≡ F.read_faults folder.old }
     ensures write_cause { IsErrOf result UpgradeFault.WriteFault → Rose (F.state folder.old).write_faults (F.state folder.new).write_faults }
     ensures no_fault { OnOk result ((F.state folder.new).write_faults ≡ (F.state folder.old).write_faults) }
     ensures same_roots { (F.state folder.new).roots ≡ (F.state folder.old).roots }

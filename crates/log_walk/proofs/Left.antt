@@ -1,6 +1,6 @@
 -- What the window shows of the bytes that are left of a log.
 use Rattle.std.proofs.Common.{◌≡◌, ℕ, ◌+◌, ◌<◌, ◌≤◌, List, [], ◌∷◌, ◌++◌, length, take, drop, refl, sym, ap, subst, ◌∙◌, arith}
-use Rattle.std.proofs.lemmas.List.{append-nil, length-take, drop-drop}
+use Rattle.std.proofs.lemmas.List.{append-nil, length-take, length-drop, drop-drop, drop_all}
 use Rattle.sw_base.specs.Window.{Window, Shows, skipped}
 use Rattle.sw_base.proofs.Windows.{shows_skipped}
 use Rattle.log_format.specs.declared.format.Format.{Format}
@@ -22,14 +22,13 @@ short_left ahead rest same short = omega (arith, short, ap length same, length-t
 pub whole_left : (ahead rest : List ℕ) → 24 ≤ length ahead → take 24 ahead ≡ take 24 rest → 24 ≤ length rest
 whole_left ahead rest whole same = omega (arith, whole, ap length same, length-take 24 ahead, length-take 24 rest)
 
--- no byte is left
-pub none_left : (ahead rest : List ℕ) → take 1 ahead ≡ take 1 rest → length ahead ≡ 0 → rest ≡ []
-none_left ahead [] same none = refl
-none_left ahead (b ∷ rest) same none = absurd (omega (arith, none, ap length same, length-take 1 ahead, length-take 1 (b ∷ rest)))
+-- the file is so long, so no byte is left
+pub none_left : (file : List ℕ) (place size : ℕ) → size ≡ length file → size ≤ place → drop place file ≡ []
+none_left file place size is ended = drop_all place file (omega (arith, is, ended))
 
--- a byte is left
-pub some_left : (ahead rest : List ℕ) → take 1 ahead ≡ take 1 rest → 0 < length ahead → 0 < length rest
-some_left ahead rest same some = omega (arith, some, ap length same, length-take 1 ahead, length-take 1 rest)
+-- it is longer, so a byte is left
+pub some_left : (file : List ℕ) (place size : ℕ) → size ≡ length file → place < size → 0 < length (drop place file)
+some_left file place size is longer = omega (arith, is, longer, length-drop place file)
 
 -- the records of a log that is good
 pub good_log : {format : Format} (task : LogTask) (opened : ℕ) (state : State) (records : List Record) (index : ℕ) → Checks format task opened state records index → index ≡ task.records

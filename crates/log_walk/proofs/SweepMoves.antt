@@ -189,7 +189,7 @@ refused_kept {format} told dir old new trace e swept is of tells = record {
 
 -- ---- what is answered of the next region
 
-none_refused : (sweep : Sweep) (e : WalkFault) → sweep.refused ≡ None → HasRefused sweep e → ⊥
+pub none_refused : (sweep : Sweep) (e : WalkFault) → sweep.refused ≡ None → HasRefused sweep e → ⊥
 none_refused sweep e fresh is = none-some e (sym fresh ∙ is)
 
 -- the refusal of an earlier call

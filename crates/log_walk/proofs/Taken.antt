@@ -4,11 +4,11 @@ use Rattle.std.specs.Prelude.{All, slice_get, string_bytes, option_map, unwrap_o
 use Rattle.std.proofs.lemmas.Bool.{cases_order}
 use Rattle.std.proofs.lemmas.List.{length-take-le, take_all}
 use Rattle.std.proofs.lemmas.List.Sums.{count_by_more_no}
-use Rattle.std.proofs.lemmas.Option.{same_Some, slice_get_within, get_or_from_slice_get}
+use Rattle.std.proofs.lemmas.Option.{none-some, same_Some, slice_get_within, get_or_from_slice_get}
 use Rattle.sw_base.specs.declared.path.Step.{Step}
 use Rattle.sw_base.specs.Environment.{Content, WhereTold}
 use Rattle.sw_base.specs.Names.{log_name}
-use Rattle.sw_base.specs.Window.{Window, Shows, file_of}
+use Rattle.sw_base.specs.Window.{Window, file_of}
 use Rattle.log_format.specs.declared.format.Format.{Format}
 use Rattle.log_format.specs.declared.record.Kind.TheVariants.{End}
 use Rattle.log_format.specs.declared.record.Record.{Record}
@@ -35,8 +35,7 @@ use Rattle.log_walk.specs.declared.ahead.Batch.{Batch}
 use Rattle.log_walk.specs.declared.check.Checked.{Checked}
 use Rattle.log_walk.specs.declared.stack.Stack.{Stack}
 use Rattle.log_walk.specs.declared.task.Task.{Task}
-use Rattle.log_walk.proofs.Left.{whole_log}
-use Rattle.log_walk.proofs.LogSoFar.{shows_from}
+use Rattle.log_walk.proofs.Left.{none_left, whole_log}
 use Rattle.log_walk.proofs.NextStack.{Pushed, walks_task}
 
 -- nothing was read yet
@@ -136,7 +135,7 @@ ahead_walks {format} told dir rows stack now trace row read old new good stands 
 
 -- a log of which no byte is left is good
 pub kept : {format : Format} (told : Option Content) (dir : List ℕ) (rows : List Row) (window : Window) (read : Ahead) → IsGoneOver format told dir rows window read
-    → WhereTold told (λ c. Shows window (file_of c (string_bytes read.source.name)) → drop window.place (file_of c (string_bytes read.source.name)) ≡ []) → IsAhead format told dir rows read
+    → read.source.size ≤ 8 + 24 * read.source.task.records → IsAhead format told dir rows read
 kept told dir rows window read passed ended = record {
   source = passed.source;
   checks = record {
@@ -147,7 +146,7 @@ kept told dir rows window read passed ended = record {
         (let file = file_of c (string_bytes read.source.name) in
         let shown = passed.shown c is in
         whole_log file passed.records (window_at read.source.task.records window.ahead) shown
-        (subst (λ (n : ℕ). drop n file ≡ []) passed.place (ended c is (shows_from window read.source.task.records file passed.place shown.shows))));
+        (none_left file (8 + 24 * read.source.task.records) read.source.size (passed.source.size c is) ended));
     walks = passed.walks;
   };
 }
@@ -160,6 +159,11 @@ lane_own fork label step is_step e x found =
     let few : step.span ≤ 64 = is_step.span.limit in
     let in_team : step.lane < step.span = is_step.lane in
     subst (λ (t : Triple). (t.span ≤ 64) × (t.offset ≤ 64 * 1) × (t.barrier ≤ 1)) same (omega arith, omega arith, omega arith)
+
+-- the length that is told of a file
+pub sized : (held : Option (List ℕ)) (size : ℕ) → Some size ≡ option_map length held → size ≡ length (unwrap_or held [])
+sized None size is = absurd (none-some size (sym is))
+sized (Some file) size is = ap (λ (found : Option ℕ). unwrap_or found 0) is
 
 -- a file that has a length is held
 pub held_there : (content : Content) (name other : List ℕ) (size : Option ℕ) → size ≡ option_map length (content.held name) → (size ≡ None → ⊥) → name ≡ other → content.held other ≡ Some (file_of content name)

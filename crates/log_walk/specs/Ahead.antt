@@ -1,5 +1,5 @@
 -- What is known of a log that is read before its turn.
-use Rattle.std.specs.Prelude.{◌≡◌, ℕ, ◌+◌, ◌*◌, ◌≤◌, List, [], All, Option, Some, None, slice_get, string_bytes}
+use Rattle.std.specs.Prelude.{◌≡◌, ℕ, ◌+◌, ◌*◌, ◌≤◌, List, [], length, All, Option, Some, None, slice_get, string_bytes}
 use Rattle.sw_base.specs.Environment.{Content, WhereTold}
 use Rattle.sw_base.specs.Names.{log_name}
 use Rattle.sw_base.specs.Window.{Window, file_of}
@@ -35,6 +35,7 @@ pub record IsSource (told : Option Content) (dir : List ℕ) (rows : List Row) (
   pub spans : ListsSpans rows row.path source.task.spans.items
   pub free : source.task.due_barriers ≡ None
   pub own : IsOwnAfter source.label 1
+  pub size : WhereTold told (λ c. source.size ≡ length (file_of c (string_bytes source.name)))
   pub there : WhereTold told (λ c. c.held (log_name dir row.path) ≡ Some (file_of c (string_bytes source.name)))
 
 -- so many records of the log were gone over, as if no segment were opened before it, and the window is past them

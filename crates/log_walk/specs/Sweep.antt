@@ -1,5 +1,5 @@
 -- A sweep through a folder: the root's log first, and then one region of the root at a time.
-use Rattle.std.specs.Prelude.{◌≡◌, ℕ, ◌+◌, ◌-◌, ◌<◌, ◌≤◌, List, [], ◌∷◌, ◌++◌, length, Contains, Option, Some, None, Result, Err, IfOk, IfErr, IfSome, OnOk, slice_get}
+use Rattle.std.specs.Prelude.{◌≡◌, ℕ, ◌+◌, ◌-◌, ◌<◌, ◌≤◌, List, [], ◌∷◌, ◌++◌, length, Contains, Option, Some, None, Result, Err, IfOk, IfErr, IfSome, IsErrOf, OnOk, slice_get}
 use Rattle.std.specs.Global.{Vec}
 use Rattle.std.specs.List.{AllZip}
 use Rattle.sw_base.specs.declared.path.Step.{Step}
@@ -40,6 +40,10 @@ logs_left sweep = length sweep.rows - sweep.stack.place
 abbrev pub HasRefused : Sweep → WalkFault → Type 0
 HasRefused sweep refusal = sweep.refused ≡ Some refusal
 
+-- a read failed in this call, and not in an earlier one of which the refusal stays
+abbrev pub FailsNow : {T : Type 0} → Sweep → Result T WalkFault → Type 0
+FailsNow sweep result = IsErrOf result fault.ReadFault × (HasRefused sweep fault.ReadFault → ⊥)
+
 -- a refusal that tells a place tells one in the index or in the root's log
 abbrev pub RefusesIndexOrRoot : WalkFault → Type 0
 RefusesIndexOrRoot fault.NoIndex = Unit {0}
@@ -67,6 +71,10 @@ pub record HasSwept (format : Format) (told : Option Content) (dir : List ℕ) (
   pub stands : sweep.refused ≡ None → IsStackAfter format sweep.rows sweep.stack trace
   pub holds : WhereTold told (λ c. Walked format c.held dir sweep.rows trace)
   pub refusal : (e : WalkFault) → HasRefused sweep e → RefusesLogOf (IsUnderRegion sweep.region) e × WhereTold told (λ c. TellsFirstBad format c.held dir e)
+
+-- some of the folder's tasks were gone over
+abbrev pub IsUnderWay : Option Content → Sweep → Type 0
+IsUnderWay told sweep = (format : Format) × (dir : List ℕ) × (trace : Trace) × HasSwept format told dir sweep trace
 
 -- the logs of a region were gone over, and these are their segments
 pub record WalksRegion (format : Format) (told : Option Content) (dir : List ℕ) (rows : List Row) (region : ℕ) (stack : Stack) (trace : Trace) (found : List Segment) : Type 0 where

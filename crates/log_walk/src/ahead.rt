@@ -1,31 +1,30 @@
 //! A log that is read before its turn, as if no segment were opened before it and its team owed no barriers.
-ghost use Rattle.std.specs.Prelude.{◌≡◌, ◌<◌, ◌^◌, ◌-◌, ℕ, List, Option, IfOk, OnOk};
-ghost use Rattle.sw_base.specs.Environment.{Content, HasCause};
+ghost use Rattle.std.specs.Prelude.{◌≡◌, ◌<◌, ◌^◌, ◌-◌, ℕ, List, Option, IfOk, OnOk, IsErrOf};
+ghost use Rattle.sw_base.specs.Environment.{Content};
+ghost use Rattle.sw_base.specs.OnlyReads.{OnlyReads};
 ghost use Rattle.sw_base.specs.Window.{Window as View};
 ghost use Rattle.log_format.specs.declared.format.Format.{Format};
 ghost use Rattle.race_model.specs.Row.{Row};
 ghost use Rattle.log_walk.specs.Ahead.{IsBatch, IsGoneOver, IsReading, IsSlot, IsSource, IsStage};
 
-use crate::check::{Checked, is_at_end, pass_ahead};
+use crate::check::{Checked, end_of, pass_ahead};
 use crate::state::State;
 use crate::task::Task;
-use log_format::Format;
+use log_format::{Format, RECORD_SIZE};
 use log_segment::{Segment, Walk};
 use span_label::Label;
 use std::alloc::Global;
 use std::mem;
 use sw_base::{Folder, Memory, Trouble, Window};
 
-/// The bytes of a record.
-const RECORD: usize = 24;
-
 /// What a log is read by before its turn.
 #[derive(Drop)]
 pub struct Source {
     /// The number of its row, from 0.
     pub place: usize,
-    /// Its name.
+    /// Its name, and how many bytes it has.
     pub name: String,
+    pub size: u64,
     /// Its task, as if its team owed no barriers.
     pub task: Task,
     /// The label of its first record.
@@ -88,8 +87,7 @@ fn begin<F: Folder>(
     ensures begins { (dir : List ℕ) (rows : List Row) → IsSource (F.state folder.old).content dir rows source
         → IfOk result (λ stage. IsStage format (F.state folder.old).content dir rows window.new stage) }
 
-    ensures same { F.state folder.new ≡ F.state folder.old }
-    ensures cause { HasCause (F.read_faults folder.old) (F.read_faults folder.new) result }
+    ensures reads { OnlyReads F.Folder folder.old folder.new (IsErrOf result Trouble.Failed) }
 {
     window.restart();
     if !window.pass_header(alloc, folder, &source.name, &format.log_header())? {
@@ -118,8 +116,7 @@ fn begin_next<F: Folder>(
     ensures batch { (dir : List ℕ) (rows : List Row) → IsBatch format (F.state folder.old).content dir rows batch.old
         → OnOk result (IsBatch format (F.state folder.old).content dir rows batch.new) }
 
-    ensures same { F.state folder.new ≡ F.state folder.old }
-    ensures cause { HasCause (F.read_faults folder.old) (F.read_faults folder.new) result }
+    ensures reads { OnlyReads F.Folder folder.old folder.new (IsErrOf result Trouble.Failed) }
 {
     match batch.sources.pop() {
         Some(source) => begin(alloc, format, folder, window, source),
@@ -137,28 +134,18 @@ fn read_on<F: Folder>(
     ensures goes { (format : Format) (dir : List ℕ) (rows : List Row) → IsReading format (F.state folder.old).content dir rows window.old reading
         → IfOk result (λ stage. IsStage format (F.state folder.old).content dir rows window.new stage) }
 
-    ensures same { F.state folder.new ≡ F.state folder.old }
-    ensures cause { HasCause (F.read_faults folder.old) (F.read_faults folder.new) result }
+    ensures reads { OnlyReads F.Folder folder.old folder.new (IsErrOf result Trouble.Failed) }
 {
-    window.fill(alloc, folder, &reading.source.name, RECORD)?;
+    window.fill(alloc, folder, &reading.source.name, RECORD_SIZE)?;
     Ok(Stage::Going(reading))
 }
 
 /// Keeps a log, if no byte follows its records.
-fn keep<F: Folder>(
-    alloc: Global,
-    folder: &mut F,
-    window: &mut Window,
-    read: Ahead,
-    batch: &mut Batch,
-) -> Result<(), Trouble>
-    ensures batch { (format : Format) (dir : List ℕ) (rows : List Row) → IsGoneOver format (F.state folder.old).content dir rows window.old read
-        → IsBatch format (F.state folder.old).content dir rows batch.old → OnOk result (IsBatch format (F.state folder.old).content dir rows batch.new) }
-
-    ensures same { F.state folder.new ≡ F.state folder.old }
-    ensures cause { HasCause (F.read_faults folder.old) (F.read_faults folder.new) result }
+fn keep(read: Ahead, batch: &mut Batch) -> Result<(), Memory>
+    ensures { (format : Format) (told : Option Content) (dir : List ℕ) (rows : List Row) (window : View) → IsGoneOver format told dir rows window read
+        → IsBatch format told dir rows batch.old → OnOk result (IsBatch format told dir rows batch.new) }
 {
-    if is_at_end(alloc, folder, &read.source.name, window)? {
+    if read.source.size <= end_of(read.source.task.records) {
         batch.ahead.push(read)?;
     }
     Ok(())
@@ -178,14 +165,13 @@ fn next_stage<F: Folder>(
     ensures batch { (dir : List ℕ) (rows : List Row) → IsStage format (F.state folder.old).content dir rows window.old stage
         → IsBatch format (F.state folder.old).content dir rows batch.old → OnOk result (IsBatch format (F.state folder.old).content dir rows batch.new) }
 
-    ensures same { F.state folder.new ≡ F.state folder.old }
-    ensures cause { HasCause (F.read_faults folder.old) (F.read_faults folder.new) result }
+    ensures reads { OnlyReads F.Folder folder.old folder.new (IsErrOf result Trouble.Failed) }
 {
     match stage {
         Stage::Idle => begin_next(alloc, format, folder, window, batch),
         Stage::Going(reading) => read_on(alloc, folder, window, reading),
         Stage::Passed(read) => {
-            keep(alloc, folder, window, read, batch)?;
+            keep(read, batch)?;
             begin_next(alloc, format, folder, window, batch)
         }
     }
@@ -267,7 +253,7 @@ impl Slot {
         ensures { (format : Format) (told : Option Content) (dir : List ℕ) (rows : List Row) → IfOk result (IsSlot format told dir rows) }
     {
         Ok(Slot {
-            window: Window::new(alloc, RECORD * records + RECORD)?,
+            window: Window::new(alloc, RECORD_SIZE * records + RECORD_SIZE)?,
             stage: Stage::Idle,
         })
     }
@@ -290,8 +276,7 @@ impl Slot {
         ensures batch { (dir : List ℕ) (rows : List Row) → IsSlot format (F.state folder.old).content dir rows self.old
             → IsBatch format (F.state folder.old).content dir rows batch.old → OnOk result (IsBatch format (F.state folder.old).content dir rows batch.new) }
 
-        ensures same { F.state folder.new ≡ F.state folder.old }
-        ensures cause { HasCause (F.read_faults folder.old) (F.read_faults folder.new) result }
+        ensures reads { OnlyReads F.Folder folder.old folder.new (IsErrOf result Trouble.Failed) }
     {
         let stage = mem::replace(&mut self.stage, Stage::Idle);
         self.stage = next_stage(alloc, format, folder, &mut self.window, stage, batch)?;

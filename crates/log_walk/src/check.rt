@@ -1,6 +1,7 @@
 //! The check of one log.
 ghost use Rattle.std.specs.Prelude.{◌≡◌, ◌+◌, ◌-◌, ◌*◌, ◌<◌, ◌≤◌, ℕ, List, Option, [], ◌∷◌, ◌++◌, length, drop, IfOk, IfErr, IsErrOf, IsTrue, IsFalse, OnOk};
-ghost use Rattle.sw_base.specs.Environment.{Content, HasCause, WhereTold, Rose};
+ghost use Rattle.sw_base.specs.Environment.{Content, WhereTold};
+ghost use Rattle.sw_base.specs.OnlyReads.{OnlyReads};
 ghost use Rattle.sw_base.specs.Window.{Shows, file_of};
 ghost use Rattle.log_format.specs.Table.{HasAddress, Spells};
 ghost use Rattle.log_format.specs.declared.format.Format.{Format};
@@ -17,18 +18,15 @@ ghost use Rattle.race_model.specs.Label.{Triple};
 
 use crate::state::State;
 use crate::task::Task;
-use log_format::{Format, Record, Why, decode_as};
+use log_format::{Format, RECORD_SIZE, Record, Why, decode_as};
 use log_segment::{Segment, Walk};
 use race_model::RecordWhy;
 use span_label::Label;
 use std::alloc::{AllocFailed, Global};
 use sw_base::{Folder, Memory, Trouble, Window};
 
-/// The bytes of a record.
-const RECORD: usize = 24;
-
 /// Why a log is refused.
-#[derive(Clone, Copy, Debug, PartialEq, Eq)]
+#[derive(Clone, Copy)]
 pub enum LogFault {
     /// The record of this number breaks this rule.
     Bad { number: u32, why: RecordWhy },
@@ -85,6 +83,13 @@ pub struct Checked {
     pub barriers: u32,
     /// How many segments it and the earlier logs have.
     pub segments: u32,
+}
+
+/// Where a log with so many records ends.
+pub fn end_of(records: u32) -> u64
+    ensures { result ≡ 8 + 24 * records }
+{
+    8 + RECORD_SIZE as u64 * u64::from(records)
 }
 
 /// The rule of a log that a fault of a record's bytes breaks.
@@ -161,7 +166,7 @@ fn walk_ahead(
     let mut after = before;
     let mut rest = ahead;
     'records: while after < task.records {
-        let Some((bytes, later)) = rest.split_first_chunk::<RECORD>() else {
+        let Some((bytes, later)) = rest.split_first_chunk::<RECORD_SIZE>() else {
             return Ok(after);
         };
         // The record stays where it was read: taking it out would cost more than the rest of its way.
@@ -221,7 +226,7 @@ pub fn pass_ahead(
         window.ahead(),
         found,
     )?;
-    window.skip(RECORD * (after - before) as usize);
+    window.skip(RECORD_SIZE * (after - before) as usize);
     Ok(after)
 }
 
@@ -252,11 +257,9 @@ fn next_records<F: Folder>(
         → LogSoFar format (F.state folder.old).content name.now (log_task_of task.now) opened label state.old walk.old window.old.ahead old found.old.items before
         → IfErr result (λ e. WhereTold (F.state folder.old).content (λ c. IsLogRefused format (file_of c name.now) (log_task_of task.now) opened e)) }
 
-    ensures same { F.state folder.new ≡ F.state folder.old }
-    ensures later { F.read_faults folder.old ≤ F.read_faults folder.new }
-    ensures cause { IsErrOf result LogFault.ReadFault → Rose (F.read_faults folder.old) (F.read_faults folder.new) }
+    ensures reads { OnlyReads F.Folder folder.old folder.new (IsErrOf result LogFault.ReadFault) }
 {
-    window.fill(alloc, folder, name, RECORD)?;
+    window.fill(alloc, folder, name, RECORD_SIZE)?;
     let after = pass_ahead(alloc, format, window, state, walk, task, before, found)?;
     if after == before {
         return Err(LogFault::Bad {
@@ -267,44 +270,28 @@ fn next_records<F: Folder>(
     Ok(after)
 }
 
-/// Whether no byte of the file follows those that the window passed.
-pub fn is_at_end<F: Folder>(
-    alloc: Global,
-    folder: &mut F,
-    name: &str,
-    window: &mut Window,
-) -> Result<bool, Trouble>
-    ensures end { IfOk result (λ ended. IsTrue ended → WhereTold (F.state folder.old).content (λ c. Shows window.old (file_of c name.now) → drop window.old.place (file_of c name.now) ≡ [])) }
-    ensures more { IfOk result (λ ended. IsFalse ended → WhereTold (F.state folder.old).content (λ c. Shows window.old (file_of c name.now) → 0 < length (drop window.old.place (file_of c name.now)))) }
-
-    ensures same { F.state folder.new ≡ F.state folder.old }
-    ensures cause { HasCause (F.read_faults folder.old) (F.read_faults folder.new) result }
-{
-    window.fill(alloc, folder, name, 1)?;
-    Ok(window.ahead().is_empty())
-}
-
-/// Goes over the log under this name, where it is good, and adds its segments. Else the first place at which it isn't.
+/// Goes over the log under this name, which has so many bytes, where it is good, and adds its segments. Else the first place at
+/// which it isn't.
 pub fn check_log<F: Folder>(
     alloc: Global,
     format: Format,
     folder: &mut F,
     name: &str,
+    size: u64,
     window: &mut Window,
     task: &Task,
     opened: u32,
     label: Label,
     found: &mut Vec<Segment>,
 ) -> Result<Checked, LogFault>
+    requires size { WhereTold (F.state folder.old).content (λ c. size ≡ length (file_of c name.now)) }
     requires opened { opened ≤ max_segments }
     requires records { task.now.records ≤ max_records }
     requires own { IsOwnAfter label 1 }
     ensures good { IfOk result (λ checked. ChecksLog format (F.state folder.old).content name.now task.now opened label checked found.old.items found.new.items) }
     ensures refused { IfErr result (λ e. WhereTold (F.state folder.old).content (λ x. IsLogRefused format (file_of x name.now) (log_task_of task.now) opened e)) }
 
-    ensures same { F.state folder.new ≡ F.state folder.old }
-    ensures later { F.read_faults folder.old ≤ F.read_faults folder.new }
-    ensures cause { IsErrOf result LogFault.ReadFault → Rose (F.read_faults folder.old) (F.read_faults folder.new) }
+    ensures reads { OnlyReads F.Folder folder.old folder.new (IsErrOf result LogFault.ReadFault) }
 {
     window.restart();
     if !window.pass_header(alloc, folder, name, &format.log_header())? {
@@ -322,7 +309,7 @@ pub fn check_log<F: Folder>(
         )?;
         index = after;
     }
-    if !is_at_end(alloc, folder, name, window)? {
+    if size > end_of(task.records) {
         return Err(LogFault::Bad {
             number: task.records + 1,
             why: RecordWhy::Extra,

@@ -1,8 +1,9 @@
 //! Going over one log of a folder.
-ghost use Rattle.std.specs.Prelude.{◌≡◌, ◌+◌, ◌≤◌, ◌<◌, Some, length, slice_get, string_bytes, IfOk, IfErr, OnOk, IsErrOf};
-ghost use Rattle.sw_base.specs.Environment.{WhereTold, Rose};
+ghost use Rattle.std.specs.Prelude.{◌≡◌, ◌+◌, ◌<◌, Some, length, slice_get, string_bytes, IfOk, IfErr, OnOk, IsErrOf};
+ghost use Rattle.sw_base.specs.Environment.{WhereTold};
+ghost use Rattle.sw_base.specs.OnlyReads.{OnlyReads};
 ghost use Rattle.sw_base.specs.Names.{log_name};
-ghost use Rattle.sw_base.specs.Window.{HoldsFile};
+ghost use Rattle.sw_base.specs.Window.{HoldsFile, file_of};
 ghost use Rattle.log_format.specs.declared.format.Format.{Format};
 ghost use Rattle.race_model.specs.Row.{Row};
 ghost use Rattle.race_model.specs.IndexFault.{AreRows};
@@ -22,23 +23,22 @@ use log_segment::{Segment, first_label};
 use std::alloc::Global;
 use sw_base::{Folder, Memory, Path};
 
-/// The name of a task's log, where the folder has it.
+/// The name of a task's log, and how many bytes it has, where the folder has it.
 fn find_log<F: Folder>(
     alloc: Global,
     folder: &mut F,
     dir: &str,
     path: &Path,
-) -> Result<String, WalkFault>
-    ensures name { IfOk result (λ name. string_bytes name ≡ log_name dir.now path.now) }
+) -> Result<(String, u64), WalkFault>
+    ensures name { IfOk result (λ found. string_bytes found.0 ≡ log_name dir.now path.now) }
+    ensures size { IfOk result (λ found. WhereTold (F.state folder.old).content (λ c. found.1 ≡ length (file_of c (log_name dir.now path.now)))) }
     ensures found { OnOk result (WhereTold (F.state folder.old).content (λ c. HoldsFile c (log_name dir.now path.now))) }
     ensures unread { IfErr result (λ e. IsUnread (F.state folder.old).content dir.now path.now e) }
-    ensures same { F.state folder.new ≡ F.state folder.old }
-    ensures later { F.read_faults folder.old ≤ F.read_faults folder.new }
-    ensures cause { IsErrOf result WalkFault.ReadFault → Rose (F.read_faults folder.old) (F.read_faults folder.new) }
+    ensures reads { OnlyReads F.Folder folder.old folder.new (IsErrOf result WalkFault.ReadFault) }
 {
     let name = path.name(alloc, dir)?;
     match folder.size(alloc, &name) {
-        Ok(Some(_)) => Ok(name),
+        Ok(Some(size)) => Ok((name, size)),
         Ok(None) => Err(WalkFault::MissingLog { path: path.copy() }),
         Err(trouble) => Err(WalkFault::from(trouble)),
     }
@@ -98,12 +98,10 @@ pub fn walk_log<F: Folder>(
     ensures place { OnOk result (stack.new.place ≡ stack.old.place + 1) }
     ensures refused { (trace : Trace) (row : Row) → IsStackAfter format rows.now stack.old trace → slice_get rows.now stack.old.place ≡ Some row
         → IfErr result (RefusesNext format (F.state folder.old).content dir.now rows.now trace row) }
-    ensures same { F.state folder.new ≡ F.state folder.old }
-    ensures later { F.read_faults folder.old ≤ F.read_faults folder.new }
-    ensures cause { IsErrOf result WalkFault.ReadFault → Rose (F.read_faults folder.old) (F.read_faults folder.new) }
+    ensures reads { OnlyReads F.Folder folder.old folder.new (IsErrOf result WalkFault.ReadFault) }
 {
     let row = &rows[stack.place];
-    let name = find_log(alloc, folder, dir, &row.path)?;
+    let (name, size) = find_log(alloc, folder, dir, &row.path)?;
     let task = next_task(alloc, rows, stack)?;
     let label = first_label(&stack.forks, &row.path);
     let window = &mut stack.window;
@@ -112,6 +110,7 @@ pub fn walk_log<F: Folder>(
         format,
         folder,
         &name,
+        size,
         window,
         &task,
         stack.segments,

@@ -1,6 +1,7 @@
 //! A folder gone over region by region.
-ghost use Rattle.std.specs.Prelude.{◌≡◌, ◌⊎◌, ◌≤◌, ◌<◌, ◌↔◌, ℕ, List, All, None, length, IfOk, IfErr, IsErrOf, IsTrue, OnErr};
-ghost use Rattle.sw_base.specs.Environment.{HasCause, WhereTold, Rose};
+ghost use Rattle.std.specs.Prelude.{◌≡◌, ◌≤◌, ◌<◌, ◌↔◌, ℕ, List, All, None, length, IfOk, IfErr, IsErrOf, IsTrue, OnErr};
+ghost use Rattle.sw_base.specs.Environment.{WhereTold};
+ghost use Rattle.sw_base.specs.OnlyReads.{OnlyReads};
 ghost use Rattle.log_format.specs.declared.format.Format.{Format};
 ghost use Rattle.log_format.specs.declared.format.TheConstants.{FORMAT};
 ghost use Rattle.race_model.specs.Trace.{Trace};
@@ -8,7 +9,7 @@ ghost use Rattle.race_model.specs.IndexFault.{AreRows};
 ghost use Rattle.log_segment.specs.Regions.{IsUnderRegion};
 ghost use Rattle.log_walk.specs.Ahead.{IsAhead};
 ghost use Rattle.log_walk.specs.Stack.{IsStackAfter};
-ghost use Rattle.log_walk.specs.Sweep.{AnswersNext, AreRegions, BeginsSweep, HasRefused, HasSwept, RefusesIndexOrRoot, WalksRegion, logs_left};
+ghost use Rattle.log_walk.specs.Sweep.{AnswersNext, AreRegions, BeginsSweep, FailsNow, IsUnderWay, RefusesIndexOrRoot, WalksRegion, logs_left};
 ghost use Rattle.log_walk.specs.Walk.{TellsFirstBad, RefusesLogOf, Walked};
 
 use crate::ahead::Ahead;
@@ -84,9 +85,7 @@ fn walk_region<F: Folder>(
         → IfOk result (λ found. WalksRegion format (F.state folder.old).content dir.now rows.now region stack.new trace found.items) }
     ensures refused { (trace : Trace) → IsStackAfter format rows.now stack.old trace → WhereTold (F.state folder.old).content (λ c. Walked format c.held dir.now rows.now trace)
         → IfErr result (λ e. RefusesLogOf (IsUnderRegion region) e × WhereTold (F.state folder.old).content (λ c. TellsFirstBad format c.held dir.now e)) }
-    ensures same { F.state folder.new ≡ F.state folder.old }
-    ensures later { F.read_faults folder.old ≤ F.read_faults folder.new }
-    ensures cause { IsErrOf result WalkFault.ReadFault → Rose (F.read_faults folder.old) (F.read_faults folder.new) }
+    ensures reads { OnlyReads F.Folder folder.old folder.new (IsErrOf result WalkFault.ReadFault) }
 {
     let mut found = Vec::new(alloc);
     'tasks: for index in stack.place..rows.len() {
@@ -111,9 +110,7 @@ impl Sweep {
         ensures begins { IfOk result (λ pair. BeginsSweep FORMAT (F.state folder.old).content dir.now pair.0 pair.1.items) }
         ensures refused { IfErr result (λ e. RefusesIndexOrRoot e × WhereTold (F.state folder.old).content (λ c. TellsFirstBad FORMAT c.held dir.now e)) }
 
-        ensures same { F.state folder.new ≡ F.state folder.old }
-        ensures later { F.read_faults folder.old ≤ F.read_faults folder.new }
-        ensures cause { IsErrOf result WalkFault.ReadFault → Rose (F.read_faults folder.old) (F.read_faults folder.new) }
+        ensures reads { OnlyReads F.Folder folder.old folder.new (IsErrOf result WalkFault.ReadFault) }
     {
         Sweep::open_as(alloc, FORMAT, folder, dir)
     }
@@ -128,9 +125,7 @@ impl Sweep {
         ensures begins { IfOk result (λ pair. BeginsSweep format (F.state folder.old).content dir.now pair.0 pair.1.items) }
         ensures refused { IfErr result (λ e. RefusesIndexOrRoot e × WhereTold (F.state folder.old).content (λ c. TellsFirstBad format c.held dir.now e)) }
 
-        ensures same { F.state folder.new ≡ F.state folder.old }
-        ensures later { F.read_faults folder.old ≤ F.read_faults folder.new }
-        ensures cause { IsErrOf result WalkFault.ReadFault → Rose (F.read_faults folder.old) (F.read_faults folder.new) }
+        ensures reads { OnlyReads F.Folder folder.old folder.new (IsErrOf result WalkFault.ReadFault) }
     {
         let mut found = Vec::new(alloc);
         let rows = read_index_as(alloc, format, folder, dir)?;
@@ -168,12 +163,10 @@ impl Sweep {
         alloc: Global,
         folder: &mut F,
     ) -> Result<Option<Vec<Segment>>, WalkFault>
-        requires swept { (format : Format) × (dir : List ℕ) × (trace : Trace) × HasSwept format (F.state folder.old).content dir self.old trace }
+        requires swept { IsUnderWay (F.state folder.old).content self.old }
         ensures next { AnswersNext (F.state folder.old).content self.old self.new result }
 
-        ensures same { F.state folder.new ≡ F.state folder.old }
-        ensures later { F.read_faults folder.old ≤ F.read_faults folder.new }
-        ensures cause { IsErrOf result WalkFault.ReadFault → Rose (F.read_faults folder.old) (F.read_faults folder.new) ⊎ HasRefused self.old WalkFault.ReadFault }
+        ensures reads { OnlyReads F.Folder folder.old folder.new (FailsNow self.old result) }
     {
         self.next_with(alloc, folder, Vec::new(alloc))
     }
@@ -187,12 +180,10 @@ impl Sweep {
         workers: usize,
     ) -> Result<Option<Vec<Segment>>, WalkFault>
         requires workers { 1 ≤ workers }
-        requires swept { (format : Format) × (dir : List ℕ) × (trace : Trace) × HasSwept format (F.state folder.old).content dir self.old trace }
+        requires swept { IsUnderWay (F.state folder.old).content self.old }
         ensures next { AnswersNext (F.state folder.old).content self.old self.new result }
 
-        ensures same { F.state folder.new ≡ F.state folder.old }
-        ensures later { F.read_faults folder.old ≤ F.read_faults folder.new }
-        ensures cause { IsErrOf result WalkFault.ReadFault → Rose (F.read_faults folder.old) (F.read_faults folder.new) ⊎ HasRefused self.old WalkFault.ReadFault }
+        ensures reads { OnlyReads F.Folder folder.old folder.new (FailsNow self.old result) }
     {
         match self.read(rt, alloc, folder, workers) {
             Ok(ahead) => self.next_with(alloc, folder, ahead),
@@ -217,8 +208,7 @@ impl Sweep {
         ensures ahead { IfOk result (λ ahead. All (IsAhead self.now.format (F.state folder.old).content self.now.dir self.now.rows) ahead.items) }
         ensures fresh { OnErr result (self.now.refused ≡ None) }
 
-        ensures same { F.state folder.new ≡ F.state folder.old }
-        ensures cause { HasCause (F.read_faults folder.old) (F.read_faults folder.new) result }
+        ensures reads { OnlyReads F.Folder folder.old folder.new (IsErrOf result Trouble.Failed) }
     {
         if self.refused.is_some() {
             return Ok(Vec::new(alloc));
@@ -244,12 +234,10 @@ impl Sweep {
         ahead: Vec<Ahead>,
     ) -> Result<Option<Vec<Segment>>, WalkFault>
         requires read { All (IsAhead self.old.format (F.state folder.old).content self.old.dir self.old.rows) ahead.items }
-        requires swept { (format : Format) × (dir : List ℕ) × (trace : Trace) × HasSwept format (F.state folder.old).content dir self.old trace }
+        requires swept { IsUnderWay (F.state folder.old).content self.old }
         ensures next { AnswersNext (F.state folder.old).content self.old self.new result }
 
-        ensures same { F.state folder.new ≡ F.state folder.old }
-        ensures later { F.read_faults folder.old ≤ F.read_faults folder.new }
-        ensures cause { IsErrOf result WalkFault.ReadFault → Rose (F.read_faults folder.old) (F.read_faults folder.new) ⊎ HasRefused self.old WalkFault.ReadFault }
+        ensures reads { OnlyReads F.Folder folder.old folder.new (FailsNow self.old result) }
     {
         if let Some(refusal) = &self.refused {
             return Err(refusal.copy());

@@ -1,6 +1,7 @@
 //! Going over the next log, which may have been read before its turn.
 ghost use Rattle.std.specs.Prelude.{◌≡◌, ◌↔◌, ◌+◌, ◌^◌, ◌≤◌, ◌<◌, ℕ, List, All, Option, Some, length, slice_get, slice_index_or, IfErr, IfSome, IsErrOf, IsTrue, OnOk};
-ghost use Rattle.sw_base.specs.Environment.{Content, Rose};
+ghost use Rattle.sw_base.specs.Environment.{Content};
+ghost use Rattle.sw_base.specs.OnlyReads.{OnlyReads};
 ghost use Rattle.log_format.specs.declared.format.Format.{Format};
 ghost use Rattle.race_model.specs.IndexFault.{AreRows};
 ghost use Rattle.race_model.specs.LogFault.{max_segments};
@@ -143,9 +144,7 @@ pub fn walk_next<F: Folder>(
     ensures left { All (IsAhead format (F.state folder.old).content dir.now rows.now) ahead.new.items }
     ensures refused { (trace : Trace) (row : Row) → IsStackAfter format rows.now stack.old trace → slice_get rows.now stack.old.place ≡ Some row
         → IfErr result (RefusesNext format (F.state folder.old).content dir.now rows.now trace row) }
-    ensures same { F.state folder.new ≡ F.state folder.old }
-    ensures later { F.read_faults folder.old ≤ F.read_faults folder.new }
-    ensures cause { IsErrOf result WalkFault.ReadFault → Rose (F.read_faults folder.old) (F.read_faults folder.new) }
+    ensures reads { OnlyReads F.Folder folder.old folder.new (IsErrOf result WalkFault.ReadFault) }
 {
     match take(ahead, rows, stack) {
         Some(read) => Ok(take_over(stack, read, found)?),

@@ -1,6 +1,7 @@
 //! The logs of the lanes of a region, read before their turns: one thread reads the files, and workers go over the records.
-ghost use Rattle.std.specs.Prelude.{◌≡◌, ◌<◌, ◌≤◌, ◌^◌, ℕ, List, All, Option, IfOk, IfSome, OnOk, length};
-ghost use Rattle.sw_base.specs.Environment.{Content, HasCause};
+ghost use Rattle.std.specs.Prelude.{◌<◌, ◌≤◌, ◌^◌, ℕ, List, All, Option, IfOk, IfSome, OnOk, length, IsErrOf};
+ghost use Rattle.sw_base.specs.Environment.{Content};
+ghost use Rattle.sw_base.specs.OnlyReads.{OnlyReads};
 ghost use Rattle.log_format.specs.declared.format.Format.{Format};
 ghost use Rattle.race_model.specs.IndexFault.{AreRows};
 ghost use Rattle.race_model.specs.Row.{Row};
@@ -90,14 +91,13 @@ fn source<F: Folder>(
     requires room { length fork.now < 5 }
     ensures source { IfOk result (λ found. IfSome found (IsSource (F.state folder.old).content dir.now rows.now)) }
 
-    ensures same { F.state folder.new ≡ F.state folder.old }
-    ensures cause { HasCause (F.read_faults folder.old) (F.read_faults folder.new) result }
+    ensures reads { OnlyReads F.Folder folder.old folder.new (IsErrOf result Trouble.Failed) }
 {
     let row = &rows[place];
     let name = row.path.name(alloc, dir)?;
-    if folder.size(alloc, &name)?.is_none() {
+    let Some(size) = folder.size(alloc, &name)? else {
         return Ok(None);
-    }
+    };
     let spans = spans_of(alloc, rows, place)?;
     let Some((step, _)) = row.path.steps().split_last() else {
         return Ok(None);
@@ -111,6 +111,7 @@ fn source<F: Folder>(
     Ok(Some(Source {
         place,
         name,
+        size,
         task,
         label: fork.fork(step.lane, step.span),
     }))
@@ -130,8 +131,7 @@ fn sources_of<F: Folder>(
     requires room { length fork.now < 5 }
     ensures sources { IfOk result (λ found. All (IsSource (F.state folder.old).content dir.now rows.now) found.items) }
 
-    ensures same { F.state folder.new ≡ F.state folder.old }
-    ensures cause { HasCause (F.read_faults folder.old) (F.read_faults folder.new) result }
+    ensures reads { OnlyReads F.Folder folder.old folder.new (IsErrOf result Trouble.Failed) }
 {
     let mut sources = Vec::new(alloc);
     for place in lanes {
@@ -166,8 +166,7 @@ fn fill_all<F: Folder>(
         → IsBatch format (F.state folder.old).content dir rows batch.old
         → OnOk result (All (IsSlot format (F.state folder.old).content dir rows) slots.new × IsBatch format (F.state folder.old).content dir rows batch.new) }
 
-    ensures same { F.state folder.new ≡ F.state folder.old }
-    ensures cause { HasCause (F.read_faults folder.old) (F.read_faults folder.new) result }
+    ensures reads { OnlyReads F.Folder folder.old folder.new (IsErrOf result Trouble.Failed) }
 {
     for slot in slots.iter_mut() {
         slot.fill(alloc, format, folder, batch)?;
@@ -222,8 +221,7 @@ fn go_and_fill<R: Threads + Sync, F: Folder>(
         → IsBatch format (F.state folder.old).content dir rows batch.old
         → OnOk result (All (IsSlot format (F.state folder.old).content dir rows) filling.new × IsBatch format (F.state folder.old).content dir rows batch.new) }
 
-    ensures same { F.state folder.new ≡ F.state folder.old }
-    ensures cause { HasCause (F.read_faults folder.old) (F.read_faults folder.new) result }
+    ensures reads { OnlyReads F.Folder folder.old folder.new (IsErrOf result Trouble.Failed) }
 {
     if are_idle(going) {
         return fill_all(alloc, format, folder, filling, batch);
@@ -256,8 +254,7 @@ fn read_all<R: Threads + Sync, F: Folder>(
         → All (IsSlot format (F.state folder.old).content dir rows) others.old → IsBatch format (F.state folder.old).content dir rows batch
         → IfOk result (λ ahead. All (IsAhead format (F.state folder.old).content dir rows) ahead.items) }
 
-    ensures same { F.state folder.new ≡ F.state folder.old }
-    ensures cause { HasCause (F.read_faults folder.old) (F.read_faults folder.new) result }
+    ensures reads { OnlyReads F.Folder folder.old folder.new (IsErrOf result Trouble.Failed) }
 {
     fill_all(alloc, format, folder, some, &mut batch)?;
     'rounds: for _ in 0..u64::MAX {
@@ -287,8 +284,7 @@ pub fn read_ahead<R: Threads + Sync, F: Folder>(
     requires workers { 1 ≤ workers }
     ensures ahead { IfOk result (λ ahead. All (IsAhead format (F.state folder.old).content dir.now rows.now) ahead.items) }
 
-    ensures same { F.state folder.new ≡ F.state folder.old }
-    ensures cause { HasCause (F.read_faults folder.old) (F.read_faults folder.new) result }
+    ensures reads { OnlyReads F.Folder folder.old folder.new (IsErrOf result Trouble.Failed) }
 {
     let lanes = lanes_of(alloc, rows, stack.place, region)?;
     let (records, most) = records_of(rows, &lanes);

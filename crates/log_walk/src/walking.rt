@@ -1,6 +1,7 @@
 //! The segments of a folder.
-ghost use Rattle.std.specs.Prelude.{◌≡◌, ◌≤◌, IfOk, IfErr, OnOk, IsErrOf};
-ghost use Rattle.sw_base.specs.Environment.{WhereTold, Rose};
+ghost use Rattle.std.specs.Prelude.{IfOk, IfErr, OnOk, IsErrOf};
+ghost use Rattle.sw_base.specs.Environment.{WhereTold};
+ghost use Rattle.sw_base.specs.OnlyReads.{OnlyReads};
 ghost use Rattle.log_format.specs.declared.format.Format.TheVariants.{First};
 ghost use Rattle.log_format.specs.declared.format.TheConstants.{FORMAT};
 ghost use Rattle.race_model.specs.WellFormed.{IsWellFormed};
@@ -21,9 +22,7 @@ pub fn walk<F: Folder>(alloc: Global, folder: &mut F, dir: &str) -> Result<Vec<S
     ensures well_formed { OnOk result (WhereTold (F.state folder.old).content (λ c. IsWellFormed FORMAT c.held dir.now)) }
     ensures refused { IfErr result (λ e. WhereTold (F.state folder.old).content (λ c. TellsFirstBad FORMAT c.held dir.now e)) }
 
-    ensures same { F.state folder.new ≡ F.state folder.old }
-    ensures later { F.read_faults folder.old ≤ F.read_faults folder.new }
-    ensures cause { IsErrOf result WalkFault.ReadFault → Rose (F.read_faults folder.old) (F.read_faults folder.new) }
+    ensures reads { OnlyReads F.Folder folder.old folder.new (IsErrOf result WalkFault.ReadFault) }
 {
     walk_as(alloc, FORMAT, folder, dir)
 }
@@ -38,9 +37,7 @@ pub fn walk_old<F: Folder>(
     ensures well_formed { OnOk result (WhereTold (F.state folder.old).content (λ c. IsWellFormed First c.held dir.now)) }
     ensures refused { IfErr result (λ e. WhereTold (F.state folder.old).content (λ c. TellsFirstBad First c.held dir.now e)) }
 
-    ensures same { F.state folder.new ≡ F.state folder.old }
-    ensures later { F.read_faults folder.old ≤ F.read_faults folder.new }
-    ensures cause { IsErrOf result WalkFault.ReadFault → Rose (F.read_faults folder.old) (F.read_faults folder.new) }
+    ensures reads { OnlyReads F.Folder folder.old folder.new (IsErrOf result WalkFault.ReadFault) }
 {
     walk_as(alloc, Format::First, folder, dir)
 }
@@ -56,9 +53,7 @@ pub fn walk_as<F: Folder>(
     ensures well_formed { OnOk result (WhereTold (F.state folder.old).content (λ c. IsWellFormed format c.held dir.now)) }
     ensures refused { IfErr result (λ e. WhereTold (F.state folder.old).content (λ c. TellsFirstBad format c.held dir.now e)) }
 
-    ensures same { F.state folder.new ≡ F.state folder.old }
-    ensures later { F.read_faults folder.old ≤ F.read_faults folder.new }
-    ensures cause { IsErrOf result WalkFault.ReadFault → Rose (F.read_faults folder.old) (F.read_faults folder.new) }
+    ensures reads { OnlyReads F.Folder folder.old folder.new (IsErrOf result WalkFault.ReadFault) }
 {
     let (mut sweep, mut found) = Sweep::open_as(alloc, format, folder, dir)?;
     let left = sweep.left();

@@ -19,8 +19,8 @@ regions-init g c = record {
       (subst (λ (waiting : List Segment). SweptPairs (g.F.Folder.state c.args.folder.now).content c.args.dir.now c.in_ok-sweep.sweep [] waiting) (sym none)
       (SweptPairs-start _ _ _ _ c.in_ok-sweep.ensures.begins));
   fresh = λ e is. let none_yet = c.in_ok-sweep.ensures.begins.fresh in absurd (cc (none_yet, is));
-  same = c.in_ok-sweep.ensures.same;
-  later = c.in_ok-sweep.ensures.later;
+  same = c.in_ok-sweep.ensures.reads.same;
+  no_fault = search rules;
 }
 
 pub returns-in_err-segments-clause-refused : goal.returns-in_err-segments-clause-refused
@@ -44,8 +44,8 @@ regions-preserved g c = record {
       subst (λ (waiting : List Segment). SweptPairs (g.F.Folder.state c.args.folder.now).content c.args.dir.now c.next_by.new.self c.compare.new.pairs.keys waiting) (sym none)
       (SweptPairs-compared (g.F.Folder.state c.args.folder.now).content c.args.dir.now c.next_by.new.self c.regions.pairs.keys c.compare.new.pairs.keys c.append.new.self.items waits c.in_ok-compare.ensures.added);
   fresh = c.in_ok-segments.ensures.next.unrefused;
-  same = c.in_ok-segments.ensures.same ∙ c.regions.invariant.same;
-  later = omega (arith, c.in_ok-segments.ensures.later, c.regions.invariant.later);
+  same = c.in_ok-segments.ensures.reads.same ∙ c.regions.invariant.same;
+  no_fault = search rules;
 }
 
 pub regions-preserved-then-number-limit : goal.regions-preserved-then-number-limit
@@ -60,8 +60,8 @@ regions-preserved-then-number-limit g c = record {
       let waits = subst (λ (waiting : List Segment). SweptPairs (g.F.Folder.state c.args.folder.now).content c.args.dir.now c.next_by.new.self c.regions.pairs.keys waiting) (sym appended) next in
       waits;
   fresh = c.in_ok-segments.ensures.next.unrefused;
-  same = c.in_ok-segments.ensures.same ∙ c.regions.invariant.same;
-  later = omega (arith, c.in_ok-segments.ensures.later, c.regions.invariant.later);
+  same = c.in_ok-segments.ensures.reads.same ∙ c.regions.invariant.same;
+  no_fault = search rules;
 }
 
 pub returns-clause-pairs : goal.returns-clause-pairs

@@ -16,9 +16,9 @@ returns-in_err-open_log-clause-refused g c =
 pub returns-clause-done : goal.returns-clause-done
 returns-clause-done g c = λ x told events whole counted.
     on_ok_weaker c.list_records.result (λ all. log_done _ _ _ _ _ _ c.args.path.now c.args.records events counted c.in_ok-list_name.ensures.done all)
-    (c.list_records.ensures.done x (ap (λ s. s.content) c.in_ok-open_log.ensures.same ∙ told) events (c.in_ok-open_log.ensures.stands x told events whole counted))
+    (c.list_records.ensures.done x (ap (λ s. s.content) c.in_ok-open_log.ensures.reads.same ∙ told) events (c.in_ok-open_log.ensures.stands x told events whole counted))
 
 pub returns-clause-refused : goal.returns-clause-refused
 returns-clause-refused g c = λ x told events whole counted.
     on_err_weaker c.list_records.result (λ part. refused_later _ _ _ _ _ _ c.args.path.now c.args.records events counted c.in_ok-list_name.ensures.done part)
-    (c.list_records.ensures.refused x (ap (λ s. s.content) c.in_ok-open_log.ensures.same ∙ told) events (c.in_ok-open_log.ensures.stands x told events whole counted))
+    (c.list_records.ensures.refused x (ap (λ s. s.content) c.in_ok-open_log.ensures.reads.same ∙ told) events (c.in_ok-open_log.ensures.stands x told events whole counted))

@@ -1,4 +1,4 @@
-use Rattle.std.proofs.Common.{arith, ap, ◌∙◌, subst, Option}
+use Rattle.std.proofs.Common.{rules, arith, ap, ◌∙◌, subst, Option}
 use Rattle.std.specs.Option.{is_some}
 use Rattle.std.proofs.lemmas.Result.{err_from_is_err_and}
 use Rattle.log_format.specs.declared.record.Record.{Record}
@@ -33,8 +33,8 @@ records-preserved g c = record {
       listed_next record_line x c.records.reader events _ _ _ _ c.records.number listed c.in-Some.next c.next_record.new.reader
       (subst (λ (o : Option Record). GivesNext x listed.left o c.next_record.new.reader) c.in-Some.is gives) _ _ c.in_ok-list_record.ensures.done;
   room = omega (arith, c.records.invariant.room, c.in_ok-next.ensures.fewer (ap is_some c.in-Some.is));
-  same = c.in_ok-next.ensures.same ∙ c.records.invariant.same;
-  later = omega (arith, c.in_ok-next.ensures.later, c.records.invariant.later);
+  same = c.in_ok-next.ensures.reads.same ∙ c.records.invariant.same;
+  no_fault = search rules;
   later_out = omega (arith, c.in_ok-list_record.ensures.later, c.records.invariant.later_out);
 }
 

@@ -12,7 +12,7 @@ invariant-records g l = record {
       → ListedTo record_line c l.reader events (g.O.Out.written l.initial.out) (string_bytes l.initial.lines) (g.O.Out.written l.out) (string_bytes l.lines) l.number);
   room : l.number + l.reader.left ≤ l.initial.reader.left + 1;
   same : g.F.Folder.state l.folder ≡ g.F.Folder.state l.initial.folder;
-  later : g.F.Folder.read_faults l.initial.folder ≤ g.F.Folder.read_faults l.folder;
+  no_fault : g.F.Folder.read_faults l.folder ≡ g.F.Folder.read_faults l.initial.folder;
   later_out : g.O.Out.faults l.initial.out ≤ g.O.Out.faults l.out;
 }
 

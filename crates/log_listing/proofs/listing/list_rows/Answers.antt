@@ -1,4 +1,4 @@
-use Rattle.std.proofs.Common.{◌≡◌, refl, ℕ, List, string_bytes, arith, ap, sym, ◌∙◌, subst}
+use Rattle.std.proofs.Common.{rules, ◌≡◌, refl, ℕ, List, string_bytes, arith, ap, sym, ◌∙◌, subst}
 use Rattle.std.proofs.lemmas.Result.{err_from_is_err_and}
 use Rattle.log_format.specs.declared.format.TheConstants.{FORMAT}
 use Rattle.sw_base.specs.declared.path.Step.{Step}
@@ -12,7 +12,7 @@ use Rattle.log_listing.proofs.ListedLogs.{LogsTo-start, logs_all, logs_next, log
 use Rattle.log_listing.proofs.listing.list_rows.Goals as goal
 
 pub rows-init : goal.rows-init
-rows-init g c = record { listed = λ x told trace same holds. LogsTo-start _ trace _ _; same = refl; later = omega arith; later_out = omega arith }
+rows-init g c = record { listed = λ x told trace same holds. LogsTo-start _ trace _ _; same = refl; no_fault = refl; later_out = omega arith }
 
 pub returns-in_err-reader-clause-refused : goal.returns-in_err-reader-clause-refused
 returns-in_err-reader-clause-refused g c =
@@ -43,8 +43,8 @@ rows-preserved g c = record {
       logs_next (λ (task : TaskLog). log_text task.path task.records) trace c.args.rows.now same _ _ _ _ c.rows.row-index listed c.row-item.result next _ _
       (subst (λ (q : List Step). PrintsInPieces (g.O.Out.written c.rows.out) (string_bytes c.rows.lines) (g.O.Out.written c.list_log.new.out) (string_bytes c.list_log.new.lines) (log_text q next.task.records)) path
       (c.in_ok-list_log.ensures.done x (ap (λ s. s.content) c.rows.invariant.same ∙ told) next.task.records whole (ap (λ (r : Row). r.records) (c.row.view_is ∙ next.row_is))));
-  same = c.in_ok-list_log.ensures.same ∙ c.rows.invariant.same;
-  later = omega (arith, c.in_ok-list_log.ensures.later, c.rows.invariant.later);
+  same = c.in_ok-list_log.ensures.reads.same ∙ c.rows.invariant.same;
+  no_fault = search rules;
   later_out = omega (arith, c.in_ok-list_log.ensures.later_out, c.rows.invariant.later_out);
 }
 

@@ -1,4 +1,4 @@
-use Rattle.std.proofs.Common.{◌≡◌, ap, sym, subst, ◌∙◌, arith, Some}
+use Rattle.std.proofs.Common.{rules, ◌≡◌, ap, sym, subst, ◌∙◌, arith, Some}
 use Rattle.std.proofs.lemmas.Result.{err_from_is_err_and}
 use Rattle.log_format.specs.declared.format.Format.TheVariants.{First}
 use Rattle.log_format.specs.declared.format.TheConstants.{FORMAT}
@@ -22,7 +22,7 @@ rows-preserved g c = record {
       (subst (λ (r : Row). (g.F.Folder.state c.bring_log.new.folder).content ≡ Some (with_put (log_name c.args.new.now r.path) (log_bytes (log_header FORMAT) next.task.records) now)) c.row.view_is
       (c.in_ok-bring_log.ensures.done now so_far next.task.records (subst (λ (r : Row). IsWholeLog First now.held c.args.dir.now r.path next.task.records) (sym c.row.view_is) whole)
       (ap (λ (r : Row). r.records) (c.row.view_is ∙ next.row_is))));
-  later = omega (arith, c.in_ok-bring_log.ensures.counts.later, c.rows.invariant.later);
+  no_fault = search rules;
   same_faults = c.in_ok-bring_log.ensures.counts.no_fault ∙ c.rows.invariant.same_faults;
   same_roots = c.in_ok-bring_log.ensures.counts.same_roots ∙ c.rows.invariant.same_roots;
   tells = c.in_ok-bring_log.ensures.counts.tells ∙ c.rows.invariant.tells;

@@ -11,8 +11,8 @@ records-preserved g c = record {
       let gives = c.in_ok-next.ensures.gives x (ap (λ s. s.content) c.records.invariant.same ∙ told) spelled.left spelled.stands in
       spelled_next x c.records.reader events c.records.bytes.items spelled c.next.new.self c.in-Some.next _
       (subst (λ (o : Option Record). GivesNext x spelled.left o c.next.new.self) c.in-Some.is gives) (search rules);
-  same = c.in_ok-next.ensures.same ∙ c.records.invariant.same;
-  later = omega (arith, c.in_ok-next.ensures.cause.later, c.records.invariant.later);
+  same = c.in_ok-next.ensures.reads.same ∙ c.records.invariant.same;
+  no_fault = search rules;
 }
 
 pub returns-clause-spelled : goal.returns-clause-spelled

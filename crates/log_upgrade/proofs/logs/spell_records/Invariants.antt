@@ -9,7 +9,7 @@ abbrev pub invariant-records : goal.invariant-records
 invariant-records g l = record {
   spelled : WhereTold (g.F.Folder.state l.fn.folder).content (λ c. (events : List Record) → StandsBefore c l.fn.reader events → SpelledTo c l.reader events l.bytes.items);
   same : g.F.Folder.state l.folder ≡ g.F.Folder.state l.fn.folder;
-  later : g.F.Folder.read_faults l.fn.folder ≤ g.F.Folder.read_faults l.folder;
+  no_fault : g.F.Folder.read_faults l.folder ≡ g.F.Folder.read_faults l.fn.folder;
 }
 
 abbrev pub decreases-records : goal.decreases-records

@@ -9,7 +9,7 @@ use Rattle.log_segment.proofs.Passing.{walked_all}
 use Rattle.log_walk.specs.LogSoFar.{LogSoFar, window_at}
 use Rattle.log_walk.specs.Rules.{log_task_of}
 use Rattle.log_walk.proofs.SoFar.{SoFar, so_far, extra_refused}
-use Rattle.log_walk.proofs.Left.{good_log, whole_log}
+use Rattle.log_walk.proofs.Left.{good_log, none_left, some_left, whole_log}
 use Rattle.log_walk.proofs.LogSoFar.{log_none, shows_from}
 use Rattle.log_walk.proofs.check.check_log.Goals as goal
 
@@ -22,8 +22,8 @@ windows-init g c =
           (λ x told. let it = c.in_ok-pass_header.ensures.passed (search rules) x told in (it.0, it.1 ∙ ap (λ (header : List ℕ). header ++ drop 8 (file_of x c.args.name.now)) c.log_header.ensures));
       place = place;
       within = omega arith;
-      same = c.pass_header.ensures.same;
-      later = c.pass_header.ensures.cause.later;
+      same = c.pass_header.ensures.reads.same;
+      no_fault = search rules;
     }
 
 pub next_records-requires-clause-so : goal.next_records-requires-clause-so
@@ -51,22 +51,20 @@ windows-preserved g c = record {
       (sym c.windows.invariant.same) c.windows.invariant.so));
   place = c.in_ok-after.ensures.place;
   within = c.in_ok-after.ensures.within.1;
-  same = c.in_ok-after.ensures.same ∙ c.windows.invariant.same;
-  later = omega (arith, c.in_ok-after.ensures.later, c.windows.invariant.later);
+  same = c.in_ok-after.ensures.reads.same ∙ c.windows.invariant.same;
+  no_fault = search rules;
 }
 
-pub returns-then-not-branch-2-clause-refused : goal.returns-then-not-branch-2-clause-refused
-returns-then-not-branch-2-clause-refused g c = λ x told.
+pub returns-then-size-end_of-clause-refused : goal.returns-then-size-end_of-clause-refused
+returns-then-size-end_of-clause-refused g c = λ x told.
     let task = log_task_of c.args.task.now in
     let file : List ℕ = file_of x c.args.name.now in
     let known = c.windows.invariant.so in
     let read = known.read x told in
     let so : SoFar c.args.format file task c.args.opened c.windows.state known.records (drop (8 + 24 * c.windows.index) file) c.windows.index =
     so_far file task c.args.opened c.windows.state known.records (window_at c.windows.index c.windows.window.ahead) c.windows.index known.checks read in
-    let some : 0 < length (drop c.windows.window.place file) =
-    c.in_ok-is_at_end.ensures.more (search rules) x (ap (λ s. s.content) c.windows.invariant.same ∙ told) (shows_from c.windows.window c.windows.index file c.windows.invariant.place read.shows) in
     extra_refused file task c.args.opened c.windows.state known.records (drop (8 + 24 * c.windows.index) file) c.windows.index so (omega arith)
-    (subst (λ (n : ℕ). 0 < length (drop n file)) c.windows.invariant.place some)
+    (some_left file (8 + 24 * c.windows.index) c.args.size (c.requires.size x told) (omega (arith, c.end_of.ensures)))
 
 pub returns-clause-good : goal.returns-clause-good
 returns-clause-good g c =
@@ -80,9 +78,8 @@ returns-clause-good g c =
       whole = λ x told.
           let file : List ℕ = file_of x c.args.name.now in
           let read = known.read x told in
-          let none : drop c.windows.window.place file ≡ [] =
-          c.in_ok-is_at_end.ensures.end (search rules) x (ap (λ s. s.content) c.windows.invariant.same ∙ told) (shows_from c.windows.window c.windows.index file c.windows.invariant.place read.shows) in
-          whole_log file known.records (window_at c.windows.index c.windows.window.ahead) read (subst (λ (n : ℕ). drop n file ≡ []) c.windows.invariant.place none);
+          whole_log file known.records (window_at c.windows.index c.windows.window.ahead) read
+          (none_left file (8 + 24 * c.windows.index) c.args.size (c.requires.size x told) (omega (arith, c.end_of.ensures, all)));
       walks = subst (λ (forks : List (List Triple)). WalksLog c.args.task.now.path c.args.label known.records forks c.args.found.now.items c.close.new.found.items) (ap (λ (w : Walk). w.forks.items) (sym c.in_ok-close.ensures.same))
           (walked_all c.args.task.now.path c.args.label known.records c.windows.walk c.args.task.now.records c.args.found.now.items c.windows.found.items c.close.new.found.items known.walked (sym (known.checks.count ∙ all))
           c.in_ok-close.ensures.empty c.in_ok-close.ensures.added);

@@ -9,7 +9,7 @@ invariant-windows g l = record {
   place : l.window.place ≡ 8 + 24 * l.index;
   within : l.index ≤ l.task.records;
   same : g.F.Folder.state l.folder ≡ g.F.Folder.state l.fn.folder;
-  later : g.F.Folder.read_faults l.fn.folder ≤ g.F.Folder.read_faults l.folder;
+  no_fault : g.F.Folder.read_faults l.folder ≡ g.F.Folder.read_faults l.fn.folder;
 }
 
 abbrev pub decreases-windows : goal.decreases-windows

@@ -20,10 +20,15 @@ returns-in_err-after-clause-refused g c =
     let told = (g.F.Folder.state c.args.folder.now).content in
     rw (p.1, p.2) (λ opened label old so. c.in_err-after.ensures.refused told c.args.name.now opened label old (log_ahead told c.args.name.now (log_task_of c.args.task.now) opened label c.args.state.now c.args.walk.now old c.args.found.now.items c.args.before c.args.window.now c.fill.new.self c.fill.new.self.ahead so c.requires.place c.fill.ensures.place c.fill.ensures.shows refl))
 
-pub returns-in_err-after-clause-cause : goal.returns-in_err-after-clause-cause
-returns-in_err-after-clause-cause g c =
+pub returns-in_err-after-clause-reads : goal.returns-in_err-after-clause-reads
+returns-in_err-after-clause-reads g c =
     let p = err_from_is_err_and c.from_residual-in_err-after.result c.from_residual-in_err-after.ensures.1 in
-    rw (p.1, p.2) (λ is. absurd (c.in_err-after.ensures.read is))
+    rw (p.1, p.2) (record {
+      same = c.fill.ensures.reads.same;
+      later = c.fill.ensures.reads.later;
+      cause = λ is. absurd (c.in_err-after.ensures.read is);
+      no_fault = search rules;
+    })
 
 pub returns-then-after-before-clause-refused : goal.returns-then-after-before-clause-refused
 returns-then-after-before-clause-refused g c = λ opened label old so.

@@ -73,7 +73,7 @@ returns-in-Ok-clause-walks g c = λ trace row stands told_row.
     subst (λ (r : Row). WalksTask c.args.format (g.F.Folder.state c.args.folder.now).content c.args.dir.now c.args.rows.now c.push.new.self trace r c.args.found.now.items c.check_log.new.found.items) same
     (walks_task (g.F.Folder.state c.args.folder.now).content c.args.dir.now c.deref-2.result.now c.args.rows.now c.args.stack.now c.push.new.self trace mine c.in_ok-task.task c.first_label-label.result c.in-Ok.checked c.unwrap_or-barriers.result
     c.args.found.now.items c.check_log.new.found.items c.requires.rows stands at (c.in_ok-task.ensures.task mine read c.args.format trace stands)
-    (subst (λ (s : FolderState). ChecksLog c.args.format s.content c.deref-2.result.now c.in_ok-task.task c.args.stack.now.segments c.first_label-label.result c.in-Ok.checked c.args.found.now.items c.check_log.new.found.items) c.in_ok-name.ensures.same c.in-Ok.ensures.good)
+    (subst (λ (s : FolderState). ChecksLog c.args.format s.content c.deref-2.result.now c.in_ok-task.task c.args.stack.now.segments c.first_label-label.result c.in-Ok.checked c.args.found.now.items c.check_log.new.found.items) c.in_ok-name.ensures.reads.same c.in-Ok.ensures.good)
     (λ content told. c.in_ok-name.ensures.found content told ∙ ap (λ (n : List ℕ). Some (file_of content n)) (sym (c.deref-2.ensures ∙ c.in_ok-name.ensures.name)))
     (λ logs has. (let it = next_label c.args.rows.now c.args.stack.now trace logs mine c.first_label-label.result c.requires.rows stands.good has at (stands.forks mine at) c.first_label-label.ensures.root
     (λ above step labels fork e there forked. c.first_label-label.ensures.lane above step labels fork e (ap (λ (fs : List (Vec (List Triple))). slice_get fs (length above)) c.deref.ensures.value ∙ there) forked) in it.0))
@@ -92,5 +92,5 @@ returns-clause-refused g c = λ trace row stands told_row.
           (log_told content.held c.args.dir.now c.args.rows.now trace mine (log_task_of c.in_ok-task.task) (file_of content c.deref-2.result.now) c.args.stack.now.segments
           c.in-Err.fault walked at (c.in_ok-task.ensures.task mine read c.args.format trace stands)
           (c.in_ok-name.ensures.found content told ∙ ap (λ (n : List ℕ). Some (file_of content n)) (sym (c.deref-2.ensures ∙ c.in_ok-name.ensures.name))) stands.counted
-          (c.in-Err.ensures.refused content (ap (λ s. s.content) c.in_ok-name.ensures.same ∙ told))),
+          (c.in-Err.ensures.refused content (ap (λ s. s.content) c.in_ok-name.ensures.reads.same ∙ told))),
     )

@@ -17,7 +17,7 @@ tasks-init g c = record {
       (region_none (g.F.Folder.state c.args.folder.now).content c.args.dir.now c.args.rows.now c.args.region trace c.args.stack.now c.args.stack.now.place stands refl);
   read = c.requires.read;
   same = refl;
-  later = omega arith;
+  no_fault = search rules;
 }
 
 pub returns-then-not-is_under-clause-walks : goal.returns-then-not-is_under-clause-walks
@@ -66,8 +66,8 @@ tasks-preserved g c =
           (subst (λ (s : FolderState). WalksTask c.args.format s.content c.args.dir.now c.args.rows.now c.walk_next.new.stack (trace ++ so.more) mine c.tasks.found.items c.walk_next.new.found.items) c.tasks.invariant.same
           (c.in_ok-walk_next.ensures.walks (trace ++ so.more) mine so.stands at)));
       read = subst (λ (s : FolderState). All (IsAhead c.args.format s.content c.args.dir.now c.args.rows.now) c.walk_next.new.ahead.items) c.tasks.invariant.same c.in_ok-walk_next.ensures.left;
-      same = c.in_ok-walk_next.ensures.same ∙ c.tasks.invariant.same;
-      later = omega (arith, c.in_ok-walk_next.ensures.later, c.tasks.invariant.later);
+      same = c.in_ok-walk_next.ensures.reads.same ∙ c.tasks.invariant.same;
+      no_fault = search rules;
     }
 
 pub returns-clause-walks : goal.returns-clause-walks

@@ -10,5 +10,5 @@ invariant-tasks g l = record {
   so : (trace : Trace) → IsStackAfter l.format l.rows l.fn.stack trace → RegionSoFar l.format (g.F.Folder.state l.fn.folder).content l.dir l.rows l.region trace l.stack l.index l.found.items;
   read : All (IsAhead l.format (g.F.Folder.state l.fn.folder).content l.dir l.rows) l.ahead.items;
   same : g.F.Folder.state l.folder ≡ g.F.Folder.state l.fn.folder;
-  later : g.F.Folder.read_faults l.fn.folder ≤ g.F.Folder.read_faults l.folder;
+  no_fault : g.F.Folder.read_faults l.folder ≡ g.F.Folder.read_faults l.fn.folder;
 }

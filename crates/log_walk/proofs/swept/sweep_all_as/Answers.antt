@@ -1,4 +1,4 @@
-use Rattle.std.proofs.Common.{◌++◌, sym, subst, ◌∙◌, arith, ap}
+use Rattle.std.proofs.Common.{rules, ◌++◌, sym, subst, ◌∙◌, arith, ap}
 use Rattle.std.proofs.lemmas.Result.{err_from_is_err_and}
 use Rattle.sw_base.specs.Environment.{FolderState}
 use Rattle.log_walk.specs.Sweep.{HasSwept, HasSweptAll}
@@ -10,8 +10,8 @@ regions-init g c = record {
   trace = _;
   swept = c.in_ok-sweep.ensures.begins.swept;
   fresh = λ e is. let none_yet = c.in_ok-sweep.ensures.begins.fresh in absurd (cc (none_yet, is));
-  same = c.in_ok-sweep.ensures.same;
-  later = c.in_ok-sweep.ensures.later;
+  same = c.in_ok-sweep.ensures.reads.same;
+  no_fault = search rules;
 }
 
 pub returns-in_err-_segments-clause-refused : goal.returns-in_err-_segments-clause-refused
@@ -28,8 +28,8 @@ regions-preserved g c =
       trace = c.regions.invariant.trace ++ gives.more;
       swept = subst (λ (s : FolderState). HasSwept c.args.format s.content c.args.dir.now c.next.new.self (c.regions.invariant.trace ++ gives.more)) c.regions.invariant.same gives.swept;
       fresh = c.in_ok-_segments.ensures.next.unrefused;
-      same = c.in_ok-_segments.ensures.same ∙ c.regions.invariant.same;
-      later = omega (arith, c.in_ok-_segments.ensures.later, c.regions.invariant.later);
+      same = c.in_ok-_segments.ensures.reads.same ∙ c.regions.invariant.same;
+      no_fault = search rules;
     }
 
 pub returns-clause-all : goal.returns-clause-all

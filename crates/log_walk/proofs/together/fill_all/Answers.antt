@@ -1,4 +1,4 @@
-use Rattle.std.proofs.Common.{◌∙◌, ◌<◌, All, length, sym, subst, arith, get_or}
+use Rattle.std.proofs.Common.{rules, ◌∙◌, ◌<◌, All, length, sym, subst, arith, get_or}
 use Rattle.std.proofs.lemmas.List.Elements.{All-set}
 use Rattle.sw_base.specs.Environment.{FolderState}
 use Rattle.log_walk.specs.Ahead.{IsBatch, IsSlot}
@@ -18,6 +18,6 @@ loop-slot-preserved g c =
                 (subst (λ (s : FolderState). IsSlot c.args.format s.content dir rows c.fill.new.self) inv.same (c.in_ok-fill.ensures.fills dir rows own before)) was.0,
             subst (λ (s : FolderState). IsBatch c.args.format s.content dir rows c.fill.new.batch) inv.same (c.in_ok-fill.ensures.batch dir rows own before),
           ));
-      same = c.fill.ensures.same ∙ inv.same;
-      later = omega (arith, c.fill.ensures.cause.later, inv.later);
+      same = c.fill.ensures.reads.same ∙ inv.same;
+      no_fault = search rules;
     }

@@ -8,5 +8,5 @@ invariant-loop-slot g l = record {
   so : (dir : List ℕ) (rows : List Row) → All (IsSlot l.format (g.F.Folder.state l.fn.folder).content dir rows) l.fn.slots → IsBatch l.format (g.F.Folder.state l.fn.folder).content dir rows l.fn.batch
       → All (IsSlot l.format (g.F.Folder.state l.fn.folder).content dir rows) l.slots × IsBatch l.format (g.F.Folder.state l.fn.folder).content dir rows l.batch;
   same : g.F.Folder.state l.folder ≡ g.F.Folder.state l.fn.folder;
-  later : g.F.Folder.read_faults l.fn.folder ≤ g.F.Folder.read_faults l.folder;
+  no_fault : g.F.Folder.read_faults l.folder ≡ g.F.Folder.read_faults l.fn.folder;
 }

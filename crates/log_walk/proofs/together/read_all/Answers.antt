@@ -1,4 +1,4 @@
-use Rattle.std.proofs.Common.{◌∙◌, All, sym, subst, arith}
+use Rattle.std.proofs.Common.{rules, ◌∙◌, All, sym, subst, arith}
 use Rattle.sw_base.specs.Environment.{FolderState}
 use Rattle.log_walk.specs.Ahead.{IsBatch, IsSlot}
 use Rattle.log_walk.proofs.together.read_all.Goals as goal
@@ -6,8 +6,8 @@ use Rattle.log_walk.proofs.together.read_all.Goals as goal
 pub rounds-init : goal.rounds-init
 rounds-init g c = record {
   so = λ dir rows some others batch. (let filled = c.in_ok-fill_all.ensures.fills dir rows some batch in (filled.0, others, filled.1));
-  same = c.fill_all.ensures.same;
-  later = c.fill_all.ensures.cause.later;
+  same = c.fill_all.ensures.reads.same;
+  no_fault = search rules;
 }
 
 pub go_and_fill-requires-clause-so : goal.go_and_fill-requires-clause-so
@@ -33,16 +33,16 @@ rounds-preserved g c =
           (let so = inv.so dir rows some others batch in
           let first = c.in_ok-go_and_fill.ensures.fills dir rows (subst (λ (s : FolderState). All (IsSlot c.args.format s.content dir rows) c.rounds.others) (sym inv.same) so.1)
           (subst (λ (s : FolderState). IsBatch c.args.format s.content dir rows c.rounds.batch) (sym inv.same) so.2) in
-          let same = c.go_and_fill.ensures.same ∙ inv.same in
+          let same = c.go_and_fill.ensures.reads.same ∙ inv.same in
           let gone = c.go_and_fill.ensures.goes told dir rows so.0 in
           let second = c.in_ok-go_and_fill-2.ensures.fills dir rows (subst (λ (s : FolderState). All (IsSlot c.args.format s.content dir rows) c.go_and_fill.new.going) (sym same) gone)
-          (subst (λ (s : FolderState). IsBatch c.args.format s.content dir rows c.go_and_fill.new.batch) (sym c.go_and_fill.ensures.same) first.1) in (
+          (subst (λ (s : FolderState). IsBatch c.args.format s.content dir rows c.go_and_fill.new.batch) (sym c.go_and_fill.ensures.reads.same) first.1) in (
             subst (λ (s : FolderState). All (IsSlot c.args.format s.content dir rows) c.go_and_fill-in-rounds.new.filling) same second.0,
             c.go_and_fill-in-rounds.ensures.goes told dir rows (subst (λ (s : FolderState). All (IsSlot c.args.format s.content dir rows) c.go_and_fill.new.filling) inv.same first.0),
             subst (λ (s : FolderState). IsBatch c.args.format s.content dir rows c.go_and_fill-in-rounds.new.batch) same second.1,
           ));
-      same = c.go_and_fill-in-rounds.ensures.same ∙ (c.go_and_fill.ensures.same ∙ inv.same);
-      later = omega (arith, c.go_and_fill-in-rounds.ensures.cause.later, c.go_and_fill.ensures.cause.later, inv.later);
+      same = c.go_and_fill-in-rounds.ensures.reads.same ∙ (c.go_and_fill.ensures.reads.same ∙ inv.same);
+      no_fault = search rules;
     }
 
 pub returns-clause-ahead : goal.returns-clause-ahead

@@ -9,5 +9,5 @@ invariant-rounds g l = record {
       → IsBatch l.format (g.F.Folder.state l.fn.folder).content dir rows l.fn.batch
       → All (IsSlot l.format (g.F.Folder.state l.fn.folder).content dir rows) l.some × All (IsSlot l.format (g.F.Folder.state l.fn.folder).content dir rows) l.others × IsBatch l.format (g.F.Folder.state l.fn.folder).content dir rows l.batch;
   same : g.F.Folder.state l.folder ≡ g.F.Folder.state l.fn.folder;
-  later : g.F.Folder.read_faults l.fn.folder ≤ g.F.Folder.read_faults l.folder;
+  no_fault : g.F.Folder.read_faults l.folder ≡ g.F.Folder.read_faults l.fn.folder;
 }

@@ -1,4 +1,4 @@
-use Rattle.std.proofs.Common.{◌∙◌, All, List, sym, ap, subst, arith}
+use Rattle.std.proofs.Common.{rules, ◌∙◌, All, List, sym, ap, subst, arith}
 use Rattle.std.specs.Prelude.{Vec}
 use Rattle.std.specs.declared.alloc.Global.{Global}
 use Rattle.std.proofs.lemmas.List.Elements.{All-push}
@@ -19,6 +19,6 @@ loop-place-preserved g c =
             (subst (λ (s : FolderState). IsSource s.content c.args.dir.now c.args.rows.now w.in-Some.source) c.loop-place.invariant.same (rw w.in-Some.is at c.in_ok-source.ensures.source)))
         | in_default w ↦ subst P (sym (ap (λ (v : Vec Source Global). v.items) w.sources-is)) c.loop-place.invariant.so
       ];
-      same = c.source.ensures.same ∙ c.loop-place.invariant.same;
-      later = omega (arith, c.source.ensures.cause.later, c.loop-place.invariant.later);
+      same = c.source.ensures.reads.same ∙ c.loop-place.invariant.same;
+      no_fault = search rules;
     }

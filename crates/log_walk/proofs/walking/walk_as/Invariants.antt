@@ -9,5 +9,5 @@ invariant-regions g l = record {
   fewer : logs_left l.sweep + l.round ≤ l.left;
   fresh : l.sweep.refused ≡ None;
   same : g.F.Folder.state l.folder ≡ g.F.Folder.state l.fn.folder;
-  later : g.F.Folder.read_faults l.fn.folder ≤ g.F.Folder.read_faults l.folder;
+  no_fault : g.F.Folder.read_faults l.folder ≡ g.F.Folder.read_faults l.fn.folder;
 }

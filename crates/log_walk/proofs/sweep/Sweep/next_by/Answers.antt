@@ -12,19 +12,19 @@ use Rattle.log_walk.proofs.sweep.Sweep.next_by.Goals as goal
 
 pub next_with-requires-clause-read : goal.next_with-requires-clause-read
 next_with-requires-clause-read g c κs within =
-    subst (λ (s : FolderState). All (IsAhead c.args.self.now.format s.content c.args.self.now.dir c.args.self.now.rows) c.in-Ok.ahead.items) (sym c.read.ensures.same) c.in-Ok.ensures.ahead
+    subst (λ (s : FolderState). All (IsAhead c.args.self.now.format s.content c.args.self.now.dir c.args.self.now.rows) c.in-Ok.ahead.items) (sym c.read.ensures.reads.same) c.in-Ok.ensures.ahead
 
 pub next_with-requires-clause-swept : goal.next_with-requires-clause-swept
 next_with-requires-clause-swept g c κs within = (
   c.requires.swept.0,
   c.requires.swept.1,
   c.requires.swept.2,
-  subst (λ (s : FolderState). HasSwept c.requires.swept.0 s.content c.requires.swept.1 c.args.self.now c.requires.swept.2) (sym c.read.ensures.same) c.requires.swept.3,
+  subst (λ (s : FolderState). HasSwept c.requires.swept.0 s.content c.requires.swept.1 c.args.self.now c.requires.swept.2) (sym c.read.ensures.reads.same) c.requires.swept.3,
 )
 
 pub returns-in-Ok-clause-next : goal.returns-in-Ok-clause-next
 returns-in-Ok-clause-next g c =
-    subst (λ (s : FolderState). AnswersNext s.content c.args.self.now c.next_with.new.self c.next_with.result) c.read.ensures.same c.next_with.ensures.next
+    subst (λ (s : FolderState). AnswersNext s.content c.args.self.now c.next_with.new.self c.next_with.result) c.read.ensures.reads.same c.next_with.ensures.next
 
 pub returns-in-Err-clause-next : goal.returns-in-Err-clause-next
 returns-in-Err-clause-next g c =

@@ -24,7 +24,7 @@ returns-in_err-walk_log-clause-refused g c =
     let refused = c.in_err-walk_log.ensures.refused [] row.0 stands at in
     rw (p.1, p.2) (
       refuses_root row.0.path c.in_err-walk_log.field-0.0 (first_row c.deref.result.now row.0 good row.1) refused.0,
-      λ content told. refused.1 content (ap (λ s. s.content) c.in_ok-rows.ensures.same ∙ told)
+      λ content told. refused.1 content (ap (λ s. s.content) c.in_ok-rows.ensures.reads.same ∙ told)
           (walked_none content.held c.args.dir.now c.deref.result.now (subst (λ (rs : List Row). IsIndex c.args.format content.held c.args.dir.now rs) (sym c.deref.ensures.value) (c.in_ok-rows.ensures.found content told))),
     )
 
@@ -41,4 +41,4 @@ returns-clause-begins g c =
     c.in_ok-rows.ensures.found
     (subst (λ (xs : List Segment). WalksTask c.args.format (g.F.Folder.state c.args.folder.now).content c.args.dir.now c.in_ok-rows.rows.items c.walk_log.new.stack [] row.0 xs c.walk_log.new.found.items) c.new-found.ensures.items
     (subst (λ (rs : List Row). WalksTask c.args.format (g.F.Folder.state c.args.folder.now).content c.args.dir.now rs c.walk_log.new.stack [] row.0 c.new-found.result.items c.walk_log.new.found.items) c.deref.ensures.value
-    (subst (λ (s : FolderState). WalksTask c.args.format s.content c.args.dir.now c.deref.result.now c.walk_log.new.stack [] row.0 c.new-found.result.items c.walk_log.new.found.items) c.in_ok-rows.ensures.same walks)))
+    (subst (λ (s : FolderState). WalksTask c.args.format s.content c.args.dir.now c.deref.result.now c.walk_log.new.stack [] row.0 c.new-found.result.items c.walk_log.new.found.items) c.in_ok-rows.ensures.reads.same walks)))
