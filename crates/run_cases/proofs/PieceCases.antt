@@ -1,5 +1,5 @@
 -- Logs that lack two blocks, draws, lanes and regions: which are those of a run, and which aren't.
-use Rattle.std.proofs.Common.{◌≡◌, refl, ap, sym, subst, ℕ, zero, suc, ◌+◌, ◌*◌, ◌<◌, ◌≤◌, List, [], ◌∷◌, ◌++◌, Option, Some, None, false, arith}
+use Rattle.std.proofs.Common.{◌≡◌, refl, ap, sym, ◌∙◌, subst, ℕ, zero, suc, ◌+◌, ◌*◌, ◌<◌, ◌≤◌, List, [], ◌∷◌, ◌++◌, Option, Some, None, false, arith}
 use Rattle.std.specs.Prelude.{slice_get, drop, ◌==◌}
 use Rattle.std.specs.List.{flat_map}
 use Rattle.std.proofs.lemmas.List.Elements.{All-nil, All-cons}
@@ -10,19 +10,21 @@ use Rattle.sw_base.specs.Pieces.{kept, records_in}
 use Rattle.log_format.specs.declared.record.Record.{Record}
 use Rattle.log_format.specs.declared.record.Kind.TheVariants as kind
 use Rattle.log_format.specs.Spelling.{spelling}
-use Rattle.race_model.specs.Draws.{closed_loops, times_drawn}
+use Rattle.race_model.specs.Draws.{closed_loops, times_drawn, DrewEachOnce}
 use Rattle.race_model.specs.Listing.{IsListing, Task, Ends, Forks, NoLane, Lane, lane_count, lane_of, lanes, listing, under}
+use Rattle.race_model.specs.Trace.{logs_of}
 use Rattle.race_model.proofs.TraceLogs.{all_at}
+use Rattle.kernel_syntax.specs.Program.{Program}
 use Rattle.kernel_model.specs.State.{event}
 use Rattle.kernel_model.specs.Folder.{paths_of}
 use Rattle.history_model.specs.Work.{Work, Rest, RegionWork, Phase, NoPhase, Beside, NoWork, work_regions, work_records}
 use Rattle.history_model.specs.Joined.{LastIsEnd, PhasesEnd, ArePhasesJoined}
-use Rattle.execution_model.specs.Execution.{DrewSome}
+use Rattle.execution_model.specs.Execution.{DrewSome, IsExecution, team_logs}
 use Rattle.lane_runner.specs.Stopping.{RestsBelow, HaveEnded}
 use Rattle.run_command.specs.Run.{IsTornLog}
 use Rattle.run_cases.specs.TwoLanes.{dir, size, main_task, lane_task, team_path, first_log, second_log}
 use Rattle.run_cases.proofs.Impossible.{different, not_empty}
-use Rattle.run_cases.specs.Pieces.{torn_log, long_log, loop_logs, at_once, after_region}
+use Rattle.run_cases.specs.Pieces.{torn_log, long_log, loop_logs, same_chunk, at_once, after_region}
 
 -- ---- logs
 
@@ -84,6 +86,23 @@ drawn_more d = let limit : 3 ≡ d.limit = limit_is 3 d refl in different 0 1 (d
 
 pub drawn_fewer : DrewSome (loop_logs 1) 0 → ⊥
 drawn_fewer d = let limit : 1 ≡ d.limit = limit_is 1 d refl in different 0 1 (sym (d.drew.no_other 1 (omega (arith, limit)))) (omega arith)
+
+-- two lanes of an execution don't draw one chunk
+pub drawn_twice : (program : Program) (address : ℕ → ℕ) (words : List ℕ) → IsExecution program same_chunk address words → ⊥
+drawn_twice program address words e = let d = e.drawn [] step (1, omega arith, refl) 0 in by d.limit d.drew
+  where
+    step : Step
+    step = record { region = 0; lane = 0; span = 2 }
+
+    teams : List (List Record)
+    teams = team_logs (logs_of same_chunk) [] step
+
+    twice : times_drawn 0 teams 0 ≡ 2
+    twice = refl
+
+    by : (n : ℕ) → DrewEachOnce teams 0 n → ⊥
+    by zero d = different 0 2 (sym (d.no_other 0 (omega arith)) ∙ twice) (omega arith)
+    by (suc n) d = different 1 2 (sym (d.once 0 (omega arith)) ∙ twice) (omega arith)
 
 -- ---- lanes
 

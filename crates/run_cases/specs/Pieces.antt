@@ -6,9 +6,10 @@ use Rattle.log_format.specs.Format.{log_header}
 use Rattle.log_format.specs.Spelling.{log_bytes}
 use Rattle.log_format.specs.declared.record.Record.{Record}
 use Rattle.log_format.specs.declared.record.Kind.TheVariants as kind
+use Rattle.race_model.specs.Trace.{Trace}
 use Rattle.kernel_model.specs.State.{event}
 use Rattle.history_model.specs.Work.{Work, Rest, Put, Fork, Phase, NoPhase, Beside, NoWork}
-use Rattle.run_cases.specs.TwoLanes.{dir, team_path, second_log}
+use Rattle.run_cases.specs.TwoLanes.{dir, team_path, main_task, lane_task, second_log}
 
 -- the log of lane 1 of which only the first of these records were taken: so many, in pieces of these lengths behind the header
 abbrev pub torn_log : List Record → ℕ → List ℕ → HandedLog
@@ -27,6 +28,10 @@ long_log = event kind.Barrier 4 0 0 ∷ second_log 1
 -- two lanes that drew the chunks 0 and 1 of a loop of two, of which the first found no more: its closing record tells so many chunks
 abbrev pub loop_logs : ℕ → List (List Record)
 loop_logs n = (event kind.Chunk 3 0 2 ∷ event kind.Chunk 3 n n ∷ []) ∷ (event kind.Chunk 3 1 2 ∷ []) ∷ []
+
+-- the tasks of a run of two lanes of which each drew chunk 0 of a loop of two
+abbrev pub same_chunk : Trace
+same_chunk = main_task [] ∷ lane_task 0 (event kind.Chunk 3 0 2 ∷ []) ∷ lane_task 1 (event kind.Chunk 3 0 2 ∷ []) ∷ []
 
 -- what a lane does that ends at once
 abbrev pub at_once : Work

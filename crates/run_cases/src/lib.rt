@@ -21,7 +21,7 @@ pub use kernels::{
 };
 pub use nested::a_nested_lane_stops;
 pub use pieces::{
-    draws_close_with_their_count, runs_keep_all_lanes, tasks_stop_behind_ended_lanes,
-    torn_logs_lack_two_blocks,
+    draws_close_with_their_count, each_chunk_is_drawn_once, runs_keep_all_lanes,
+    tasks_stop_behind_ended_lanes, torn_logs_lack_two_blocks,
 };
 pub use stopped::{a_lane_stops, tasks_wait_for_others};
