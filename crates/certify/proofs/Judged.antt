@@ -19,8 +19,10 @@ use Rattle.serial_team.specs.Members.{WholeLog}
 use Rattle.serial_team.specs.Running.{RanRoot}
 use Rattle.serial_laws.specs.SerialRuns.{spelled}
 use Rattle.serial_laws.proofs.Certainty.{is_certain, is_ended, keeps_rules}
+use Rattle.certainty_model.specs.Certain.{IsCertain}
+use Rattle.certainty_model.proofs.CertainRuns.{only_run}
 use Rattle.certify.specs.Holding.{HoldsTasks, KeepRules}
-use Rattle.certify.specs.Verdicts.{AreCompared, HasCertainRun, HasRaces, OpensOneTooMany, RunSpells, RunsTo, records_in}
+use Rattle.certify.specs.Verdicts.{AreCompared, HasCertainRun, HasRaces, OpensOneTooMany, RunSpells, RunsTo, element_layout, records_in}
 use Rattle.certify.specs.declared.certifying.TheConstants.{MOST_RECORDS}
 
 counts_spelled : (tasks : Trace) → sum_by (λ (log : WholeLog). log.count) (map spelled tasks) ≡ records_in tasks
@@ -50,8 +52,7 @@ module _ (program : Program) (logs : List WholeLog) (words : List ℕ) (r : RunS
   runs = record {
     fixed = r.fixed;
     run = r.run.run;
-    few = subst (λ (n : ℕ). n ≤ MOST_RECORDS) count r.run.within;
-    ran = λ layout tells. subst (λ (ls : List WholeLog). RanRoot layout program MOST_RECORDS ls words) r.run.logs_are (r.ran layout tells);
+    ran = subst (λ (ls : List WholeLog). RanRoot (element_layout program) program MOST_RECORDS ls words) r.run.logs_are r.ran;
   }
 
   module _ (dir : List ℕ) (told : Option Content) (held : HoldsTasks dir logs told) where
@@ -75,7 +76,8 @@ module _ (program : Program) (logs : List WholeLog) (words : List ℕ) (r : RunS
       tasks = tasks;
       runs = runs;
       compared = are_compared pairs found;
-      certain = is_certain program (layout_of program.arrays) tasks words r.fixed r.run.run (λ pair races_so. none_there ((races pairs found).each pair).1 races_so);
+      certain = certain;
+      only = λ other is_run. only_run program r.lawful tasks certain other is_run;
       ends = is_ended program (layout_of program.arrays) tasks words r.run.run;
       count_is = count_is ∙ (ap length r.run.logs_are ∙ length-map tasks spelled);
       records_are = sum_is ∙ count;
@@ -83,6 +85,9 @@ module _ (program : Program) (logs : List WholeLog) (words : List ℕ) (r : RunS
       where
         none_there : {pair : ℕ × ℕ} → (IsRacePair (logs_of tasks) pair → Contains pairs pair) → IsRacePair (logs_of tasks) pair → ⊥
         none_there {pair} lists races_so = let there = subst (λ (ps : List (ℕ × ℕ)). Contains ps pair) (nothing_left pairs none) (lists races_so) in absurd (omega (arith, there.1))
+
+        certain : IsCertain program tasks
+        certain = is_certain program (layout_of program.arrays) tasks words r.fixed r.run.run (λ pair races_so. none_there ((races pairs found).each pair).1 races_so)
 
     pub opens_too_many : (path : List Step) (number : ℕ) → IsFirstIn FORMAT held.content.held dir path (λ row. too_many_segments row number) → OpensOneTooMany program path number
     opens_too_many path number first = record {

@@ -1,3 +1,6 @@
+pub mod Fixed
+pub mod FirstLines
+pub mod StmtLines
 mod Putting
 mod HeldRuns
 pub mod Layouts

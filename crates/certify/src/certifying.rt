@@ -7,9 +7,9 @@ ghost use Rattle.serial_team.specs.Members.{WholeLog, whole_log};
 ghost use Rattle.certify.specs.Holding.{HoldsTasks};
 ghost use Rattle.certify.specs.Verdicts.{Tells, RunSpells};
 
+use crate::finding::first_construct;
 use crate::holding::{DIR, folder_of};
 use crate::verdict::Verdict;
-use construct_finder::first_construct;
 use folder_races::folder_pairs;
 use kernel_syntax::Kernel;
 use log_walk::WalkFault;

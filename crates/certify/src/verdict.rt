@@ -6,7 +6,7 @@ use sw_base::Path;
 /// What one serial run tells of all runs of its kernel.
 #[derive(Drop)]
 pub enum Verdict {
-    /// The order of lanes decides more than what they read: the first construct of that kind, in the order of the text, stands at this line.
+    /// The kernel isn't fixed: its first critical section, atomic update or loop whose chunks are drawn, in the order of the text, stands at this line.
     Construct {
         line: u32,
     },

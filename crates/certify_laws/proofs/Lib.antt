@@ -1,3 +1,10 @@
-mod TooMany
+mod Doing
+mod GoAlike
+mod Growing
+mod Moving
 mod OneAnswer
 mod OneVerdict
+mod Once
+mod Rooms
+mod Root
+mod TooMany

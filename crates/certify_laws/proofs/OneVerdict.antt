@@ -16,20 +16,19 @@ use Rattle.race_model.specs.Trace.{TaskLog, Trace, logs_of}
 use Rattle.kernel_syntax.specs.Program.{Program}
 use Rattle.kernel_model.specs.Lawful.{IsLawful}
 use Rattle.certainty_model.specs.Certain.{IsFixed}
-use Rattle.construct_finder.proofs.Fixed.{have_none}
-use Rattle.construct_finder.specs.Constructs.{construct_lines}
+use Rattle.certify.proofs.Fixed.{have_none}
+use Rattle.certify.specs.Constructs.{construct_lines}
 use Rattle.folder_commands.proofs.OneAnswer.{one_list}
 use Rattle.serial_team.specs.Members.{WholeLog}
 use Rattle.serial_team.specs.Stopping.{LongAt, StopAt}
 use Rattle.serial_laws.specs.SerialRuns.{spelled}
-use Rattle.serial_run.specs.Placing.{ElementLayout, TellsWords}
+use Rattle.serial_run.specs.Placing.{ElementLayout}
 use Rattle.serial_team.specs.declared.stop.StopWhy.{StopWhy}
-use Rattle.serial_unique.proofs.Root.{one_long, one_run, one_stop, run_or_long, run_or_stop, stop_or_long}
-use Rattle.certify.proofs.Layouts.{element_layout, tells_words}
+use Rattle.certify_laws.proofs.Root.{one_long, one_run, one_stop, run_or_long, run_or_stop, stop_or_long}
 use Rattle.certify.specs.declared.certifying.TheConstants.{MOST_RECORDS}
 use Rattle.certify.specs.declared.verdict.Verdict.{Verdict}
 use Rattle.certify.specs.declared.verdict.Verdict.TheVariants as verdict
-use Rattle.certify.specs.Verdicts.{AreCompared, HasCertainRun, HasRaces, OpensOneTooMany, RunsTo, Tells, records_in}
+use Rattle.certify.specs.Verdicts.{AreCompared, HasCertainRun, HasRaces, OpensOneTooMany, RunsTo, Tells, element_layout, records_in}
 use Rattle.certify_laws.specs.Same.{SayTheSame}
 use Rattle.certify_laws.proofs.TooMany.{bad_there, same_first}
 
@@ -63,13 +62,10 @@ module _ (program : Program) (lawful : IsLawful program) where
   abbrev layout : ElementLayout
   layout = element_layout program
 
-  tells : TellsWords program.arrays layout
-  tells = tells_words program lawful.bounded
-
   -- ---- one run
 
   runs_once : (ts us : Trace) (words final : List ℕ) → RunsTo program ts words → RunsTo program us final → (map spelled us ≡ map spelled ts) × (final ≡ words)
-  runs_once ts us words final a b = one_run layout refl program MOST_RECORDS a.fixed (map spelled ts) words (a.ran layout tells) (map spelled us) final (b.ran layout tells)
+  runs_once ts us words final a b = one_run layout refl program MOST_RECORDS a.fixed (map spelled ts) words a.ran (map spelled us) final b.ran
 
   module _ (ts us : Trace) (words final : List ℕ) (a : RunsTo program ts words) (b : RunsTo program us final) (files folder : Files) (dir at : List ℕ)
       (here : HoldsTrace FORMAT files dir ts) (there : HoldsTrace FORMAT folder at us) where
@@ -112,15 +108,15 @@ module _ (program : Program) (lawful : IsLawful program) where
   -- ---- one kind
 
   long_or_ran : (path : List Step) (n : ℕ) (tasks : Trace) (words : List ℕ) → Tells program (verdict.Long path n) → RunsTo program tasks words → ⊥
-  long_or_ran path n tasks words l runs = run_or_long layout refl program MOST_RECORDS runs.fixed (map spelled tasks) words (runs.ran layout tells) (record { path = path; number = n }) (l.1 layout tells)
+  long_or_ran path n tasks words l runs = run_or_long layout refl program MOST_RECORDS runs.fixed (map spelled tasks) words (runs.ran) (record { path = path; number = n }) l.1
 
   stop_or_ran : (path : List Step) (line : ℕ) (why : StopWhy) (tasks : Trace) (words : List ℕ) → Tells program (verdict.Stopped path line why) → RunsTo program tasks words → ⊥
   stop_or_ran path line why tasks words l runs =
-      run_or_stop layout refl program MOST_RECORDS runs.fixed (map spelled tasks) words (runs.ran layout tells) (record { path = path; line = line; why = why }) (l.1 layout tells)
+      run_or_stop layout refl program MOST_RECORDS runs.fixed (map spelled tasks) words (runs.ran) (record { path = path; line = line; why = why }) l.1
 
   long_or_stop : (path other : List Step) (n line : ℕ) (why : StopWhy) → Tells program (verdict.Long path n) → Tells program (verdict.Stopped other line why) → ⊥
   long_or_stop path other n line why l s =
-      stop_or_long layout refl program MOST_RECORDS l.0 (record { path = other; line = line; why = why }) (record { path = path; number = n }) (s.1 layout tells) (l.1 layout tells)
+      stop_or_long layout refl program MOST_RECORDS l.0 (record { path = other; line = line; why = why }) (record { path = path; number = n }) s.1 l.1
 
   pub one_verdict : (v w : Verdict) → Tells program v → Tells program w → SayTheSame v w
   one_verdict (verdict.Construct line) (verdict.Construct other) a b = same_Some other line (sym b ∙ a)
@@ -131,7 +127,7 @@ module _ (program : Program) (lawful : IsLawful program) where
   one_verdict (verdict.Construct line) (verdict.Certain n m words) a b = absurd (no_construct program line a b.runs.fixed)
   one_verdict (verdict.Long path n) (verdict.Construct line) a b = absurd (no_construct program line b a.0)
   one_verdict (verdict.Long path n) (verdict.Long other m) a b =
-      let same = one_long layout refl program MOST_RECORDS a.0 (record { path = path; number = n }) (record { path = other; number = m }) (a.1 layout tells) (b.1 layout tells) in
+      let same = one_long layout refl program MOST_RECORDS a.0 (record { path = path; number = n }) (record { path = other; number = m }) a.1 b.1 in
       (ap (λ (l : LongAt). l.path) same, ap (λ (l : LongAt). l.number) same)
   one_verdict (verdict.Long path n) (verdict.Stopped other k why) a b = absurd (long_or_stop path other n k why a b)
   one_verdict (verdict.Long path n) (verdict.Segments other m) a b = absurd (long_or_ran path n b.tasks b.words a b.runs)
@@ -140,7 +136,7 @@ module _ (program : Program) (lawful : IsLawful program) where
   one_verdict (verdict.Stopped path line why) (verdict.Construct k) a b = absurd (no_construct program k b a.0)
   one_verdict (verdict.Stopped path line why) (verdict.Long other n) a b = absurd (long_or_stop other path n line why b a)
   one_verdict (verdict.Stopped path line why) (verdict.Stopped other k also) a b =
-      let same = one_stop layout refl program MOST_RECORDS a.0 (record { path = path; line = line; why = why }) (record { path = other; line = k; why = also }) (a.1 layout tells) (b.1 layout tells) in
+      let same = one_stop layout refl program MOST_RECORDS a.0 (record { path = path; line = line; why = why }) (record { path = other; line = k; why = also }) a.1 b.1 in
       (ap (λ (s : StopAt). s.path) same, ap (λ (s : StopAt). s.line) same, ap (λ (s : StopAt). s.why) same)
   one_verdict (verdict.Stopped path line why) (verdict.Segments other m) a b = absurd (stop_or_ran path line why b.tasks b.words a b.runs)
   one_verdict (verdict.Stopped path line why) (verdict.Racy pairs) a b = absurd (stop_or_ran path line why b.tasks b.words a b.runs)

@@ -5,7 +5,8 @@ use Rattle.serial_run.specs.Placing.{ElementLayout, TellsWords}
 use Rattle.serial_team.specs.Members.{whole_log}
 use Rattle.serial_laws.proofs.Root.{logs_run}
 use Rattle.certify.specs.declared.certifying.TheConstants.{MOST_RECORDS}
-use Rattle.certify.proofs.Layouts.{element_layout, tells_words}
+use Rattle.certify.specs.Verdicts.{element_layout}
+use Rattle.certify.proofs.Layouts.{tells_words}
 use Rattle.certify.proofs.certifying.certify.Goals as goal
 
 pub judge-requires-after_bounds : goal.judge-requires-after_bounds
@@ -17,11 +18,11 @@ judge-requires-after_bounds g c κs within =
       fixed = c.first_construct.ensures.fixed c.in_default.is;
       lawful = c.requires;
       run = logs_run layout program c.requires tells refl MOST_RECORDS _ _ (c.in-Ok.ensures.ran layout tells);
-      ran = c.in-Ok.ensures.ran;
+      ran = c.in-Ok.ensures.ran layout tells;
     }
 
 pub returns-in-Err-Long : goal.returns-in-Err-Long
-returns-in-Err-Long g c = record { tells = (c.first_construct.ensures.fixed c.in_default.is, λ layout tells. rw c.in-Err-Long.field-0-is (rw c.in-Err-Long.field-0-is at c.in-Err-Long.ensures.stopped layout tells)) }
+returns-in-Err-Long g c = record { tells = (c.first_construct.ensures.fixed c.in_default.is, rw c.in-Err-Long.field-0-is (rw c.in-Err-Long.field-0-is at c.in-Err-Long.ensures.stopped (element_layout (program_of c.args.kernel.now)) (tells_words (program_of c.args.kernel.now) c.requires.bounded))) }
 
 pub returns-in-Err-Stopped : goal.returns-in-Err-Stopped
-returns-in-Err-Stopped g c = record { tells = (c.first_construct.ensures.fixed c.in_default.is, λ layout tells. rw c.in-Err-Stopped.field-0-is (rw c.in-Err-Stopped.field-0-is at c.in-Err-Stopped.ensures.stopped layout tells)) }
+returns-in-Err-Stopped g c = record { tells = (c.first_construct.ensures.fixed c.in_default.is, rw c.in-Err-Stopped.field-0-is (rw c.in-Err-Stopped.field-0-is at c.in-Err-Stopped.ensures.stopped (element_layout (program_of c.args.kernel.now)) (tells_words (program_of c.args.kernel.now) c.requires.bounded))) }

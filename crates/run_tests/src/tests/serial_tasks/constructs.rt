@@ -1,6 +1,6 @@
 //! The first construct of a kernel by which the order of its lanes decides more than what they read.
 
-use construct_finder::first_construct;
+use certify::first_construct;
 use kernel_reader::read_kernel;
 use std::alloc::Global;
 use std::process::Abort;

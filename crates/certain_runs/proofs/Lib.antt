@@ -1,0 +1,5 @@
+pub mod CertainCommand
+pub mod Certified
+pub mod EndedRuns
+pub mod NeverStops
+pub mod SameListing

@@ -1,0 +1,2 @@
+pub mod CertainRun
+pub mod Leaving

@@ -1,5 +1,0 @@
-use Rattle.certainty_cases.proofs.CertainLanes.{copying_kernel}
-use Rattle.certainty_cases.proofs.cases.fixed_kernels_may_have_two_runs.Goals as goal
-
-pub returns : goal.returns
-returns c = copying_kernel

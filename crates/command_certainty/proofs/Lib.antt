@@ -1,2 +1,0 @@
-pub mod CertainCommand
-pub mod Certified

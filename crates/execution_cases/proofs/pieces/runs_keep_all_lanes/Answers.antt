@@ -1,5 +1,0 @@
-use Rattle.execution_cases.proofs.PieceCases.{lane_missing}
-use Rattle.execution_cases.proofs.pieces.runs_keep_all_lanes.Goals as goal
-
-pub returns : goal.returns
-returns c = lane_missing

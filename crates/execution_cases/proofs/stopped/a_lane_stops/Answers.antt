@@ -1,5 +1,0 @@
-use Rattle.execution_cases.proofs.StoppedLane.{stopped}
-use Rattle.execution_cases.proofs.stopped.a_lane_stops.Goals as goal
-
-pub returns : goal.returns
-returns c = stopped

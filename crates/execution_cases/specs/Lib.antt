@@ -1,3 +1,0 @@
-pub mod Nested
-pub mod Pieces
-pub mod TwoLanes

@@ -1,0 +1,14 @@
+pub mod Accesses
+pub mod CertainLanes
+pub mod CopyingLanes
+pub mod FixedVectors
+pub mod HistoryCases
+pub mod Impossible
+pub mod LockedLanes
+pub mod NestedStop
+pub mod PieceCases
+pub mod StoppedLane
+pub mod StoppedRuns
+pub mod TwoLanes
+pub mod Undrawn
+pub mod Weaving

@@ -1,0 +1,4 @@
+pub mod Examples
+pub mod Nested
+pub mod Pieces
+pub mod TwoLanes

@@ -1,2 +1,0 @@
-pub mod SameListing
-pub mod EndedRuns

@@ -1,7 +1,0 @@
-mod Doing
-mod GoAlike
-mod Growing
-mod Moving
-mod Once
-mod Rooms
-pub mod Root
