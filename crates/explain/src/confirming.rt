@@ -1,6 +1,7 @@
 //! Whether two records race.
-ghost use Rattle.std.specs.Prelude.{◌≡◌, ◌↔◌, ◌+◌, ◌<◌, ◌≤◌, ℕ, List, length, Some, IsTrue, IfOk, IfErr, IsErrOf, IsSomeAnd, None, MatchOption};
-ghost use Rattle.sw_base.specs.Environment.{WhereTold, Rose};
+ghost use Rattle.std.specs.Prelude.{◌≡◌, ◌↔◌, ◌+◌, ◌<◌, ℕ, List, length, Some, IsTrue, IfOk, IfErr, IsErrOf, IsSomeAnd, None, MatchOption};
+ghost use Rattle.sw_base.specs.Environment.{WhereTold};
+ghost use Rattle.sw_base.specs.OnlyReads.{OnlyReads};
 ghost use Rattle.counted_order.specs.Parting.{HasPassed};
 ghost use Rattle.log_format.specs.declared.format.TheConstants.{FORMAT};
 ghost use Rattle.race_model.specs.FirstBad.{HoldsTrace};
@@ -43,10 +44,8 @@ fn find_named<F: Folder>(
 ) -> Result<Option<Found>, WalkFault>
     requires { place < length rows.now }
     ensures finds { WhereTold (F.state folder.old).content (λ c. (trace : Trace) → HoldsGoodRun c dir.now rows.now trace → IfOk result (FindsNamed trace place number)) }
-    ensures same { F.state folder.new ≡ F.state folder.old }
-    ensures later { F.read_faults folder.old ≤ F.read_faults folder.new }
     ensures only_faults { IfErr result (λ e. IsNoPlace e) }
-    ensures cause { IsErrOf result WalkFault.ReadFault → Rose (F.read_faults folder.old) (F.read_faults folder.new) }
+    ensures reads { OnlyReads F.Folder folder.old folder.new (IsErrOf result WalkFault.ReadFault) }
 {
     match before(number) {
         Some(earlier) => find_in_log(alloc, folder, dir, &rows[place], Mark::Record(earlier)),
@@ -78,10 +77,8 @@ fn barriers_at<F: Folder>(
     requires level { level < 4 }
     ensures passed { WhereTold (F.state folder.old).content (λ c. (trace : Trace) → HoldsGoodRun c dir.now rows.now trace → (x : Node) → IsInLog trace place x → IsThere (logs_of trace) x
         → level < length x.path → own ≡ barriers_before (logs_of trace) x → IfOk result (λ answer. IsSomeAnd answer (HasPassed (logs_of trace) x level))) }
-    ensures same { F.state folder.new ≡ F.state folder.old }
-    ensures later { F.read_faults folder.old ≤ F.read_faults folder.new }
     ensures only_faults { IfErr result (λ e. IsNoPlace e) }
-    ensures cause { IsErrOf result WalkFault.ReadFault → Rose (F.read_faults folder.old) (F.read_faults folder.new) }
+    ensures reads { OnlyReads F.Folder folder.old folder.new (IsErrOf result WalkFault.ReadFault) }
 {
     let row = &rows[place];
     let Some(region) = region_at(row.steps(), level + 1) else {
@@ -119,10 +116,8 @@ fn are_unordered<F: Folder>(
     requires second { second < length rows.now }
     ensures unordered { WhereTold (F.state folder.old).content (λ c. (trace : Trace) → HoldsGoodRun c dir.now rows.now trace → (x y : Node) → IsInLog trace first x → IsInLog trace second y
         → TellsRecord (logs_of trace) x one.now → TellsRecord (logs_of trace) y other.now → IfOk result (λ yes. IsTrue yes ↔ IsUnordered (logs_of trace) x y)) }
-    ensures same { F.state folder.new ≡ F.state folder.old }
-    ensures later { F.read_faults folder.old ≤ F.read_faults folder.new }
     ensures only_faults { IfErr result (λ e. IsNoPlace e) }
-    ensures cause { IsErrOf result WalkFault.ReadFault → Rose (F.read_faults folder.old) (F.read_faults folder.new) }
+    ensures reads { OnlyReads F.Folder folder.old folder.new (IsErrOf result WalkFault.ReadFault) }
 {
     let Some(level) = parting(rows[first].steps(), rows[second].steps()) else {
         return Ok(false);
@@ -154,10 +149,8 @@ pub fn race_of<F: Folder>(
     ensures races { WhereTold (F.state folder.old).content (λ c. (trace : Trace) → HoldsGoodRun c dir.now rows.now trace → (x y : Node) → IsInLog trace first x → IsInLog trace second y
         → TellsRecord (logs_of trace) x one.now → TellsRecord (logs_of trace) y other.now
         → IfOk result (λ answer. (byte : ℕ) → (answer ≡ Some byte) ↔ (ConflictAt one.now other.now byte × IsUnordered (logs_of trace) x y))) }
-    ensures same { F.state folder.new ≡ F.state folder.old }
-    ensures later { F.read_faults folder.old ≤ F.read_faults folder.new }
     ensures only_faults { IfErr result (λ e. IsNoPlace e) }
-    ensures cause { IsErrOf result WalkFault.ReadFault → Rose (F.read_faults folder.old) (F.read_faults folder.new) }
+    ensures reads { OnlyReads F.Folder folder.old folder.new (IsErrOf result WalkFault.ReadFault) }
 {
     let Some(byte) = conflict(one, other) else {
         return Ok(None);
@@ -167,7 +160,7 @@ pub fn race_of<F: Folder>(
 }
 
 /// A record of a folder: its row and its number, both from 1.
-#[derive(Clone, Copy, Debug, PartialEq, Eq)]
+#[derive(Clone, Copy)]
 struct Name {
     row: u32,
     number: u32,
@@ -184,10 +177,8 @@ fn confirm_among<F: Folder>(
 ) -> Result<Option<u64>, WalkFault>
     ensures confirmed { WhereTold (F.state folder.old).content (λ c. (trace : Trace) → HoldsGoodRun c dir.now rows.now trace
         → IfOk result (λ answer. (byte : ℕ) → (answer ≡ Some byte) ↔ IsConfirmed trace one.row one.number other.row other.number byte)) }
-    ensures same { F.state folder.new ≡ F.state folder.old }
-    ensures later { F.read_faults folder.old ≤ F.read_faults folder.new }
     ensures only_faults { IfErr result (λ e. IsNoPlace e) }
-    ensures cause { IsErrOf result WalkFault.ReadFault → Rose (F.read_faults folder.old) (F.read_faults folder.new) }
+    ensures reads { OnlyReads F.Folder folder.old folder.new (IsErrOf result WalkFault.ReadFault) }
 {
     let Some(first) = place_of(rows, one.row) else {
         return Ok(None);
@@ -210,21 +201,19 @@ fn confirm_among<F: Folder>(
 /// either is past the end, they name none, and nothing races. It refuses as `walk` does.
 pub fn confirm<F: Folder>(
     alloc: Global,
-    place: &mut F,
+    folder: &mut F,
     dir: &str,
     first_row: u32,
     first: u32,
     second_row: u32,
     second: u32,
 ) -> Result<Option<u64>, WalkFault>
-    ensures confirmed { WhereTold (F.state place.old).content (λ c. (trace : Trace) → HoldsTrace FORMAT c.held dir.now trace
+    ensures confirmed { WhereTold (F.state folder.old).content (λ c. (trace : Trace) → HoldsTrace FORMAT c.held dir.now trace
         → IfOk result (λ answer. (byte : ℕ) → (answer ≡ Some byte) ↔ IsConfirmed trace first_row first second_row second byte)) }
-    ensures walks { WalksFolder (F.state place.old).content dir.now result }
-    ensures same { F.state place.new ≡ F.state place.old }
-    ensures later { F.read_faults place.old ≤ F.read_faults place.new }
-    ensures cause { IsErrOf result WalkFault.ReadFault → Rose (F.read_faults place.old) (F.read_faults place.new) }
+    ensures walks { WalksFolder (F.state folder.old).content dir.now result }
+    ensures reads { OnlyReads F.Folder folder.old folder.new (IsErrOf result WalkFault.ReadFault) }
 {
-    let sweep = sweep_all(alloc, place, dir)?;
+    let sweep = sweep_all(alloc, folder, dir)?;
     let one = Name {
         row: first_row,
         number: first,
@@ -233,5 +222,5 @@ pub fn confirm<F: Folder>(
         row: second_row,
         number: second,
     };
-    confirm_among(alloc, place, dir, sweep.rows(), one, other)
+    confirm_among(alloc, folder, dir, sweep.rows(), one, other)
 }

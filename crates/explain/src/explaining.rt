@@ -1,6 +1,7 @@
 //! The least race of two lines of a folder.
-ghost use Rattle.std.specs.Prelude.{◌≡◌, ◌↔◌, ◌^◌, ◌<◌, ◌≤◌, None, length, IfOk, IfErr, IsErrOf};
-ghost use Rattle.sw_base.specs.Environment.{WhereTold, Rose};
+ghost use Rattle.std.specs.Prelude.{◌≡◌, ◌↔◌, ◌^◌, ◌<◌, None, length, IfOk, IfErr, IsErrOf};
+ghost use Rattle.sw_base.specs.Environment.{WhereTold};
+ghost use Rattle.sw_base.specs.OnlyReads.{OnlyReads};
 ghost use Rattle.log_format.specs.declared.format.TheConstants.{FORMAT};
 ghost use Rattle.log_walk.specs.Sweep.{HasSweptAll};
 ghost use Rattle.log_walk.specs.Walk.{TellsFirstBad};
@@ -41,9 +42,7 @@ fn swept<F: Folder>(
     ensures all { IfOk result (λ pair. (trace : Trace) × HasSweptAll FORMAT (F.state folder.old).content dir.now pair.0 trace × HoldAccesses trace lines pair.1.items) }
     ensures refused { IfErr result (λ e. WhereTold (F.state folder.old).content (λ c. TellsFirstBad FORMAT c.held dir.now e)) }
 
-    ensures same { F.state folder.new ≡ F.state folder.old }
-    ensures later { F.read_faults folder.old ≤ F.read_faults folder.new }
-    ensures cause { IsErrOf result WalkFault.ReadFault → Rose (F.read_faults folder.old) (F.read_faults folder.new) }
+    ensures reads { OnlyReads F.Folder folder.old folder.new (IsErrOf result WalkFault.ReadFault) }
 {
     let (mut sweep, root) = Sweep::open(alloc, folder, dir)?;
     let mut kept = Vec::new(alloc);
@@ -66,10 +65,8 @@ fn least_among<F: Folder>(
     requires few { length rows.now < 2 ^ 32 }
     ensures explains { WhereTold (F.state folder.old).content (λ c. (trace : Trace) → HoldsGoodRun c dir.now rows.now trace → HoldAccesses trace lines segments.now
         → IfOk result (FindsLeast trace lines)) }
-    ensures same { F.state folder.new ≡ F.state folder.old }
-    ensures later { F.read_faults folder.old ≤ F.read_faults folder.new }
     ensures only_faults { IfErr result (λ e. IsNoPlace e) }
-    ensures cause { IsErrOf result WalkFault.ReadFault → Rose (F.read_faults folder.old) (F.read_faults folder.new) }
+    ensures reads { OnlyReads F.Folder folder.old folder.new (IsErrOf result WalkFault.ReadFault) }
 {
     let racing = has_pair(alloc, segments, lines)?;
     if !racing {
@@ -83,19 +80,17 @@ fn least_among<F: Folder>(
 /// one whose second record is; none where there is no race. The first record is of an earlier row. It refuses as `walk` does.
 pub fn explain<F: Folder>(
     alloc: Global,
-    place: &mut F,
+    folder: &mut F,
     dir: &str,
     low: u32,
     high: u32,
 ) -> Result<Option<RacePair>, WalkFault>
-    ensures explained { WhereTold (F.state place.old).content (λ c. (trace : Trace) → HoldsTrace FORMAT c.held dir.now trace → IfOk result (FindsLeast trace (low, high))) }
-    ensures pair { WhereTold (F.state place.old).content (λ c. (trace : Trace) → HoldsTrace FORMAT c.held dir.now trace → IfOk result (λ answer. (answer ≡ None) ↔ (IsRacePair (logs_of trace) (low, high) → ⊥))) }
-    ensures walks { WalksFolder (F.state place.old).content dir.now result }
-    ensures same { F.state place.new ≡ F.state place.old }
-    ensures later { F.read_faults place.old ≤ F.read_faults place.new }
-    ensures cause { IsErrOf result WalkFault.ReadFault → Rose (F.read_faults place.old) (F.read_faults place.new) }
+    ensures explained { WhereTold (F.state folder.old).content (λ c. (trace : Trace) → HoldsTrace FORMAT c.held dir.now trace → IfOk result (FindsLeast trace (low, high))) }
+    ensures pair { WhereTold (F.state folder.old).content (λ c. (trace : Trace) → HoldsTrace FORMAT c.held dir.now trace → IfOk result (λ answer. (answer ≡ None) ↔ (IsRacePair (logs_of trace) (low, high) → ⊥))) }
+    ensures walks { WalksFolder (F.state folder.old).content dir.now result }
+    ensures reads { OnlyReads F.Folder folder.old folder.new (IsErrOf result WalkFault.ReadFault) }
 {
     let lines = (low, high);
-    let (sweep, segments) = swept(alloc, place, dir, lines)?;
-    least_among(alloc, place, dir, sweep.rows(), &segments, lines)
+    let (sweep, segments) = swept(alloc, folder, dir, lines)?;
+    least_among(alloc, folder, dir, sweep.rows(), &segments, lines)
 }

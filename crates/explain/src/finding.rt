@@ -1,6 +1,7 @@
 //! A record of a log, found by its number or as the Region of a number.
-ghost use Rattle.std.specs.Prelude.{◌≡◌, ◌↔◌, ◌^◌, ◌≤◌, ◌<◌, List, length, is_some, IsTrue, IfOk, IfErr, IsErrOf};
-ghost use Rattle.sw_base.specs.Environment.{WhereTold, Rose};
+ghost use Rattle.std.specs.Prelude.{◌≡◌, ◌↔◌, ◌^◌, ◌<◌, List, length, is_some, IsTrue, IfOk, IfErr, IsErrOf};
+ghost use Rattle.sw_base.specs.Environment.{WhereTold};
+ghost use Rattle.sw_base.specs.OnlyReads.{OnlyReads};
 ghost use Rattle.log_format.specs.declared.format.TheConstants.{FORMAT};
 ghost use Rattle.log_format.specs.declared.record.Record.{Record as LogRecord};
 ghost use Rattle.log_reader.specs.Reading.{StandsBefore, GivesNext};
@@ -17,7 +18,7 @@ use std::alloc::Global;
 use sw_base::Folder;
 
 /// Which record of a log is looked for.
-#[derive(Clone, Copy, Debug, PartialEq, Eq)]
+#[derive(Clone, Copy)]
 pub enum Mark {
     /// The one after so many records.
     Record(u32),
@@ -64,10 +65,8 @@ pub fn next_record<F: Folder>(
 ) -> Result<Option<Record>, WalkFault>
     ensures gives { WhereTold (F.state folder.old).content (λ c. (events : List LogRecord) → StandsBefore c reader.old events → IfOk result (λ answer. GivesNext c events answer reader.new)) }
     ensures fewer { IfOk result (λ answer. IsTrue (is_some answer) → reader.new.left < reader.old.left) }
-    ensures same { F.state folder.new ≡ F.state folder.old }
-    ensures later { F.read_faults folder.old ≤ F.read_faults folder.new }
     ensures only_faults { IfErr result (λ e. IsNoPlace e) }
-    ensures cause { IsErrOf result WalkFault.ReadFault → Rose (F.read_faults folder.old) (F.read_faults folder.new) }
+    ensures reads { OnlyReads F.Folder folder.old folder.new (IsErrOf result WalkFault.ReadFault) }
 {
     match reader.next(alloc, folder) {
         Ok(next) => Ok(next),
@@ -84,10 +83,8 @@ fn find_ahead<F: Folder>(
 ) -> Result<Option<Found>, WalkFault>
     requires { reader.old.left < 2 ^ 32 }
     ensures finds { WhereTold (F.state folder.old).content (λ c. (events : List LogRecord) → StandsBefore c reader.old events → AreNested events → IfOk result (FindsMarked which events)) }
-    ensures same { F.state folder.new ≡ F.state folder.old }
-    ensures later { F.read_faults folder.old ≤ F.read_faults folder.new }
     ensures only_faults { IfErr result (λ e. IsNoPlace e) }
-    ensures cause { IsErrOf result WalkFault.ReadFault → Rose (F.read_faults folder.old) (F.read_faults folder.new) }
+    ensures reads { OnlyReads F.Folder folder.old folder.new (IsErrOf result WalkFault.ReadFault) }
 {
     let mut place = Place::start();
     'records: while let Some(next) = next_record(alloc, folder, reader)? {
@@ -113,10 +110,8 @@ pub fn open_log<F: Folder>(
     ensures stands { WhereTold (F.state folder.old).content (λ c. (events : List LogRecord) → IsWholeLog FORMAT c.held dir.now row.now.path events
         → row.now.records ≡ length events → IfOk result (λ reader. StandsBefore c reader events)) }
     ensures few { IfOk result (λ reader. reader.left < 2 ^ 32) }
-    ensures same { F.state folder.new ≡ F.state folder.old }
-    ensures later { F.read_faults folder.old ≤ F.read_faults folder.new }
     ensures only_faults { IfErr result (λ e. IsNoPlace e) }
-    ensures cause { IsErrOf result WalkFault.ReadFault → Rose (F.read_faults folder.old) (F.read_faults folder.new) }
+    ensures reads { OnlyReads F.Folder folder.old folder.new (IsErrOf result WalkFault.ReadFault) }
 {
     let mut reader = LogReader::new(alloc)?;
     reader.open(alloc, FORMAT, folder, dir, &row.path, row.records)?;
@@ -133,10 +128,8 @@ pub fn find_in_log<F: Folder>(
 ) -> Result<Option<Found>, WalkFault>
     ensures finds { WhereTold (F.state folder.old).content (λ c. (events : List LogRecord) → IsWholeLog FORMAT c.held dir.now row.now.path events
         → row.now.records ≡ length events → AreNested events → IfOk result (FindsMarked which events)) }
-    ensures same { F.state folder.new ≡ F.state folder.old }
-    ensures later { F.read_faults folder.old ≤ F.read_faults folder.new }
     ensures only_faults { IfErr result (λ e. IsNoPlace e) }
-    ensures cause { IsErrOf result WalkFault.ReadFault → Rose (F.read_faults folder.old) (F.read_faults folder.new) }
+    ensures reads { OnlyReads F.Folder folder.old folder.new (IsErrOf result WalkFault.ReadFault) }
 {
     let mut reader = open_log(alloc, folder, dir, row)?;
     find_ahead(alloc, folder, &mut reader, which)

@@ -1,6 +1,7 @@
 //! The least race of two lines: the first record that races with one of a later row, and then the first of those.
-ghost use Rattle.std.specs.Prelude.{◌≡◌, ◌↔◌, ◌⊎◌, ◌+◌, ◌-◌, ◌^◌, ◌<◌, ◌≤◌, ℕ, length, min, max, Some, IsTrue, IfOk, IfErr, IsErrOf};
-ghost use Rattle.sw_base.specs.Environment.{WhereTold, Rose};
+ghost use Rattle.std.specs.Prelude.{◌≡◌, ◌↔◌, ◌⊎◌, ◌+◌, ◌-◌, ◌^◌, ◌<◌, ℕ, length, min, max, Some, IsTrue, IfOk, IfErr, IsErrOf};
+ghost use Rattle.sw_base.specs.Environment.{WhereTold};
+ghost use Rattle.sw_base.specs.OnlyReads.{OnlyReads};
 ghost use Rattle.race_model.specs.Trace.{Trace, Node, logs_of};
 ghost use Rattle.explain.specs.Finding.{IsNoPlace};
 ghost use Rattle.explain.specs.Least.{FindsLeast, FindsHit, FindsPartner, FindsRace, RacesOn};
@@ -21,14 +22,14 @@ use std::alloc::Global;
 use sw_base::Folder;
 
 /// A record of a log that races with another, and the first byte that they have in common.
-#[derive(Clone, Copy, Debug, PartialEq, Eq)]
+#[derive(Clone, Copy)]
 pub struct Hit {
     pub number: u32,
     pub byte: u64,
 }
 
 /// The same with its row, from 1.
-#[derive(Clone, Copy, Debug, PartialEq, Eq)]
+#[derive(Clone, Copy)]
 pub struct Partner {
     pub row: u32,
     pub hit: Hit,
@@ -69,10 +70,8 @@ fn raced<F: Folder>(
     ensures races { WhereTold (F.state folder.old).content (λ c. (trace : Trace) → HoldsGoodRun c dir.now rows.now trace → (x y : Node) → IsInLog trace first x → IsInLog trace second y
         → number ≡ y.index + 1 → HoldPartners trace lines x met.now → TellsRecord (logs_of trace) x one.now → TellsRecord (logs_of trace) y other.now
         → IfOk result (λ answer. (byte : ℕ) → (answer ≡ Some byte) ↔ RacesOn (logs_of trace) lines x y byte)) }
-    ensures same { F.state folder.new ≡ F.state folder.old }
-    ensures later { F.read_faults folder.old ≤ F.read_faults folder.new }
     ensures only_faults { IfErr result (λ e. IsNoPlace e) }
-    ensures cause { IsErrOf result WalkFault.ReadFault → Rose (F.read_faults folder.old) (F.read_faults folder.new) }
+    ensures reads { OnlyReads F.Folder folder.old folder.new (IsErrOf result WalkFault.ReadFault) }
 {
     if !are_lines(&one.event, &other.event, lines) {
         return Ok(None);
@@ -101,10 +100,8 @@ fn hit_in_log<F: Folder>(
     requires second { second < length rows.now }
     ensures finds { WhereTold (F.state folder.old).content (λ c. (trace : Trace) → HoldsGoodRun c dir.now rows.now trace → (x : Node) → IsInLog trace first x
         → HoldPartners trace lines x met.now → TellsRecord (logs_of trace) x one.now → IfOk result (FindsHit trace lines x second)) }
-    ensures same { F.state folder.new ≡ F.state folder.old }
-    ensures later { F.read_faults folder.old ≤ F.read_faults folder.new }
     ensures only_faults { IfErr result (λ e. IsNoPlace e) }
-    ensures cause { IsErrOf result WalkFault.ReadFault → Rose (F.read_faults folder.old) (F.read_faults folder.new) }
+    ensures reads { OnlyReads F.Folder folder.old folder.new (IsErrOf result WalkFault.ReadFault) }
 {
     let row = &rows[second];
     if !has_path(met, &row.path) {
@@ -141,10 +138,8 @@ fn partner_of<F: Folder>(
     requires few { length rows.now < 2 ^ 32 }
     ensures finds { WhereTold (F.state folder.old).content (λ c. (trace : Trace) → HoldsGoodRun c dir.now rows.now trace → (x : Node) → IsInLog trace first x
         → HoldPartners trace lines x met.now → TellsRecord (logs_of trace) x one.now → IfOk result (FindsPartner trace lines first x)) }
-    ensures same { F.state folder.new ≡ F.state folder.old }
-    ensures later { F.read_faults folder.old ≤ F.read_faults folder.new }
     ensures only_faults { IfErr result (λ e. IsNoPlace e) }
-    ensures cause { IsErrOf result WalkFault.ReadFault → Rose (F.read_faults folder.old) (F.read_faults folder.new) }
+    ensures reads { OnlyReads F.Folder folder.old folder.new (IsErrOf result WalkFault.ReadFault) }
 {
     'rows: for second in first + 1..rows.len() {
         let hit = hit_in_log(alloc, folder, dir, rows, first, second, one, met, lines)?;
@@ -172,10 +167,8 @@ fn partner_at<F: Folder>(
     requires few { length rows.now < 2 ^ 32 }
     ensures finds { WhereTold (F.state folder.old).content (λ c. (trace : Trace) → HoldsGoodRun c dir.now rows.now trace → HoldAccesses trace lines suspects.now
         → (x : Node) → IsInLog trace first x → number ≡ x.index + 1 → TellsRecord (logs_of trace) x one.now → IfOk result (FindsPartner trace lines first x)) }
-    ensures same { F.state folder.new ≡ F.state folder.old }
-    ensures later { F.read_faults folder.old ≤ F.read_faults folder.new }
     ensures only_faults { IfErr result (λ e. IsNoPlace e) }
-    ensures cause { IsErrOf result WalkFault.ReadFault → Rose (F.read_faults folder.old) (F.read_faults folder.new) }
+    ensures reads { OnlyReads F.Folder folder.old folder.new (IsErrOf result WalkFault.ReadFault) }
 {
     if !is_on(&one.event, lines) {
         return Ok(None);
@@ -218,10 +211,8 @@ fn race_in_log<F: Folder>(
     requires few { length rows.now < 2 ^ 32 }
     ensures finds { WhereTold (F.state folder.old).content (λ c. (trace : Trace) → HoldsGoodRun c dir.now rows.now trace → HoldAccesses trace lines suspects.now
         → IfOk result (FindsRace trace lines first)) }
-    ensures same { F.state folder.new ≡ F.state folder.old }
-    ensures later { F.read_faults folder.old ≤ F.read_faults folder.new }
     ensures only_faults { IfErr result (λ e. IsNoPlace e) }
-    ensures cause { IsErrOf result WalkFault.ReadFault → Rose (F.read_faults folder.old) (F.read_faults folder.new) }
+    ensures reads { OnlyReads F.Folder folder.old folder.new (IsErrOf result WalkFault.ReadFault) }
 {
     let row = &rows[first];
     let suspected = is_row_suspected(alloc, suspects, &row.path, lines)?;
@@ -256,10 +247,8 @@ pub fn least_race<F: Folder>(
     requires few { length rows.now < 2 ^ 32 }
     ensures explains { WhereTold (F.state folder.old).content (λ c. (trace : Trace) → HoldsGoodRun c dir.now rows.now trace → HoldAccesses trace lines suspects.now
         → IfOk result (FindsLeast trace lines)) }
-    ensures same { F.state folder.new ≡ F.state folder.old }
-    ensures later { F.read_faults folder.old ≤ F.read_faults folder.new }
     ensures only_faults { IfErr result (λ e. IsNoPlace e) }
-    ensures cause { IsErrOf result WalkFault.ReadFault → Rose (F.read_faults folder.old) (F.read_faults folder.new) }
+    ensures reads { OnlyReads F.Folder folder.old folder.new (IsErrOf result WalkFault.ReadFault) }
 {
     'rows: for first in 0..rows.len() {
         let found = race_in_log(alloc, folder, dir, rows, suspects, first, lines)?;

@@ -1,7 +1,8 @@
 //! `check`: the race pairs of the run that a folder holds.
-ghost use Rattle.std.specs.Prelude.{◌≡◌, ◌≤◌, List, IfOk, IfErr, IsErrOf};
+ghost use Rattle.std.specs.Prelude.{◌≡◌, ◌≤◌, List, IfOk};
 ghost use Rattle.log_format.specs.declared.format.TheConstants.{FORMAT};
 ghost use Rattle.sw_base.specs.Environment.{Rose, WhereTold};
+ghost use Rattle.sw_base.specs.OnlyReads.{OnlyReads};
 ghost use Rattle.command_answer.specs.Answer.{Answers};
 ghost use Rattle.command_answer.specs.declared.status.TheConstants.{USAGE, READ_FAULT, WRITE_FAULT};
 ghost use Rattle.folder_commands.specs.Check.{FolderDue, HasReport};
@@ -25,9 +26,8 @@ pub fn check<R: Threads + Sync, F: Folder, O: Out, G: Gate>(
 ) -> u8
     requires workers { (1 ≤ workers) × (workers ≤ 64) }
     ensures answers { WhereTold (F.state folder.old).content (λ c. Answers (FolderDue HasReport c.held dir.now) (O.written out.old) (O.written out.new) result) }
-    ensures read_fault { result ≡ READ_FAULT → Rose (F.read_faults folder.old) (F.read_faults folder.new) }
     ensures write_fault { result ≡ WRITE_FAULT → Rose (O.faults out.old) (O.faults out.new) }
-    ensures same { F.state folder.new ≡ F.state folder.old }
+    ensures reads { OnlyReads F.Folder folder.old folder.new (result ≡ READ_FAULT) }
     ensures no_usage { result ≡ USAGE → ⊥ }
 {
     match folder_pairs(rt, alloc, folder, gate, dir, workers) {

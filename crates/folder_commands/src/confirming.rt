@@ -1,6 +1,7 @@
 //! `confirm`: whether two records of a folder race.
 ghost use Rattle.std.specs.Prelude.{◌≡◌, ◌↔◌, ℕ, Some};
 ghost use Rattle.sw_base.specs.Environment.{Rose, WhereTold};
+ghost use Rattle.sw_base.specs.OnlyReads.{OnlyReads};
 ghost use Rattle.race_model.specs.Trace.{Trace};
 ghost use Rattle.command_answer.specs.Answer.{Tries};
 ghost use Rattle.command_answer.specs.declared.status.TheConstants.{USAGE, READ_FAULT, WRITE_FAULT};
@@ -43,9 +44,8 @@ pub fn confirm_records<F: Folder, O: Out>(
     second: u32,
 ) -> u8
     ensures answers { WhereTold (F.state folder.old).content (λ c. Tries (FolderDue (HasConfirmation first_row first second_row second) c.held dir.now) (O.written out.old) (O.written out.new) result) }
-    ensures read_fault { result ≡ READ_FAULT → Rose (F.read_faults folder.old) (F.read_faults folder.new) }
     ensures write_fault { result ≡ WRITE_FAULT → Rose (O.faults out.old) (O.faults out.new) }
-    ensures same { F.state folder.new ≡ F.state folder.old }
+    ensures reads { OnlyReads F.Folder folder.old folder.new (result ≡ READ_FAULT) }
     ensures no_usage { result ≡ USAGE → ⊥ }
 {
     match confirm(alloc, folder, dir, first_row, first, second_row, second) {

@@ -1,7 +1,8 @@
 //! `explain`: the two records behind a race pair.
-ghost use Rattle.std.specs.Prelude.{◌≡◌, ◌≤◌, ◌-◌, ℕ, Some, IfOk, slice_get, string_bytes};
+ghost use Rattle.std.specs.Prelude.{◌≡◌, ◌-◌, ℕ, Some, IfOk, slice_get, string_bytes};
 ghost use Rattle.log_format.specs.declared.format.TheConstants.{FORMAT};
 ghost use Rattle.sw_base.specs.Environment.{Rose, WhereTold};
+ghost use Rattle.sw_base.specs.OnlyReads.{OnlyReads};
 ghost use Rattle.race_model.specs.FirstBad.{HoldsTrace};
 ghost use Rattle.race_model.specs.Row.{Row as TaskRow};
 ghost use Rattle.race_model.specs.Trace.{Trace};
@@ -52,10 +53,8 @@ fn print_race<F: Folder, O: Out>(
 ) -> u8
     ensures answers { WhereTold (F.state folder.old).content (λ c. (trace : Trace) (low high : ℕ) → HoldsTrace FORMAT c.held dir.now trace → IsWellFormed FORMAT c.held dir.now
         → IsLeastWitness trace (low, high) found.now → Tries (FolderDue (HasExplanation low high) c.held dir.now) (O.written out.old) (O.written out.new) result) }
-    ensures read_fault { result ≡ READ_FAULT → Rose (F.read_faults folder.old) (F.read_faults folder.new) }
     ensures write_fault { result ≡ WRITE_FAULT → Rose (O.faults out.old) (O.faults out.new) }
-    ensures same { F.state folder.new ≡ F.state folder.old }
-    ensures later { F.read_faults folder.old ≤ F.read_faults folder.new }
+    ensures reads { OnlyReads F.Folder folder.old folder.new (result ≡ READ_FAULT) }
     ensures no_usage { result ≡ USAGE → ⊥ }
 {
     match read_index(alloc, folder, dir) {
@@ -74,9 +73,8 @@ pub fn explain_lines<F: Folder, O: Out>(
     high: u32,
 ) -> u8
     ensures answers { WhereTold (F.state folder.old).content (λ c. Tries (FolderDue (HasExplanation low high) c.held dir.now) (O.written out.old) (O.written out.new) result) }
-    ensures read_fault { result ≡ READ_FAULT → Rose (F.read_faults folder.old) (F.read_faults folder.new) }
     ensures write_fault { result ≡ WRITE_FAULT → Rose (O.faults out.old) (O.faults out.new) }
-    ensures same { F.state folder.new ≡ F.state folder.old }
+    ensures reads { OnlyReads F.Folder folder.old folder.new (result ≡ READ_FAULT) }
     ensures no_usage { result ≡ USAGE → ⊥ }
 {
     match explain(alloc, folder, dir, low, high) {

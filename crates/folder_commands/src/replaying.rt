@@ -1,6 +1,7 @@
 //! `replay`: whether a folder holds a run of a kernel.
 ghost use Rattle.std.specs.Prelude.{◌≡◌};
 ghost use Rattle.sw_base.specs.Environment.{Rose, WhereTold};
+ghost use Rattle.sw_base.specs.OnlyReads.{OnlyReads};
 ghost use Rattle.race_model.specs.Trace.{Trace};
 ghost use Rattle.kernel_syntax.specs.Program.{Program, program_of};
 ghost use Rattle.log_replay.specs.Replaying.{IsReplayable, IsReplayed};
@@ -45,9 +46,8 @@ fn compare<F: Folder, O: Out>(
 ) -> u8
     requires { IsReplayable (program_of kernel.now) }
     ensures answers { WhereTold (F.state folder.old).content (λ c. Tries (FolderDue (HasReplay (program_of kernel.now)) c.held dir.now) (O.written out.old) (O.written out.new) result) }
-    ensures read_fault { result ≡ READ_FAULT → Rose (F.read_faults folder.old) (F.read_faults folder.new) }
     ensures write_fault { result ≡ WRITE_FAULT → Rose (O.faults out.old) (O.faults out.new) }
-    ensures same { F.state folder.new ≡ F.state folder.old }
+    ensures reads { OnlyReads F.Folder folder.old folder.new (result ≡ READ_FAULT) }
     ensures no_usage { result ≡ USAGE → ⊥ }
 {
     match replay(alloc, kernel, folder, dir) {
@@ -66,9 +66,8 @@ pub fn replay_file<F: Folder, O: Out>(
     dir: &str,
 ) -> u8
     ensures answers { WhereTold (F.state folder.old).content (λ c. Tries (ReplayDue c.held kernel.now dir.now) (O.written out.old) (O.written out.new) result) }
-    ensures read_fault { result ≡ READ_FAULT → Rose (F.read_faults folder.old) (F.read_faults folder.new) }
     ensures write_fault { result ≡ WRITE_FAULT → Rose (O.faults out.old) (O.faults out.new) }
-    ensures same { F.state folder.new ≡ F.state folder.old }
+    ensures reads { OnlyReads F.Folder folder.old folder.new (result ≡ READ_FAULT) }
     ensures no_usage { result ≡ USAGE → ⊥ }
 {
     match read_kernel_file(alloc, folder, kernel) {

@@ -1,5 +1,5 @@
 //! `upgrade`: a folder of the first format brought over to another folder.
-ghost use Rattle.std.specs.Prelude.{◌≡◌, ◌⊎◌, is_some};
+ghost use Rattle.std.specs.Prelude.{◌≡◌, ◌↔◌, ◌⊎◌, is_some};
 ghost use Rattle.sw_base.specs.Environment.{Rose, WhereTold};
 ghost use Rattle.sw_base.specs.declared.trouble.Trouble.TheVariants as troubles;
 ghost use Rattle.command_answer.specs.Answer.{Answers, IsFailure};
@@ -19,7 +19,7 @@ const INDEX_EXISTS: &[u8] = b"index exists\n";
 /// The status of a read that failed, or for which no memory was found.
 fn read_failure(trouble: Trouble) -> u8
     ensures failure { IsFailure result }
-    ensures read { result ≡ READ_FAULT → trouble ≡ troubles.Failed }
+    ensures read { (result ≡ READ_FAULT) ↔ (trouble ≡ troubles.Failed) }
     ensures no_write { result ≡ WRITE_FAULT → ⊥ }
 {
     match trouble {
@@ -40,6 +40,7 @@ pub fn upgrade_folder<F: Folder, O: Out>(
     ensures upgrades { result ≡ DONE → WhereTold (F.state folder.old).content (λ c. WhereTold (F.state folder.new).content (λ d. IsUpgraded dir.now new.now c d)) }
     ensures leaves { IsFailure result → WhereTold (F.state folder.old).content (λ c. WhereTold (F.state folder.new).content (λ d. LeavesUpgrade dir.now new.now c d)) }
     ensures read_fault { result ≡ READ_FAULT → Rose (F.read_faults folder.old) (F.read_faults folder.new) }
+    ensures no_read_fault { (result ≡ READ_FAULT → ⊥) → F.read_faults folder.new ≡ F.read_faults folder.old }
     ensures write_fault { result ≡ WRITE_FAULT → Rose (O.faults out.old) (O.faults out.new) ⊎ Rose (F.state folder.old).write_faults (F.state folder.new).write_faults }
     ensures no_fault { result ≡ DONE → (F.state folder.new).write_faults ≡ (F.state folder.old).write_faults }
     ensures only_printed { WhereTold (F.state folder.old).content (λ c. CanNotUpgrade c.held dir.now new.now → result ≡ WRITE_FAULT → Rose (O.faults out.old) (O.faults out.new)) }

@@ -1,6 +1,7 @@
 //! Reads a kernel's file.
-ghost use Rattle.std.specs.Prelude.{◌≡◌, ◌≤◌, IfOk, IfErr};
-ghost use Rattle.sw_base.specs.Environment.{Rose, WhereTold};
+ghost use Rattle.std.specs.Prelude.{◌≡◌, IfOk, IfErr, IsErrOf};
+ghost use Rattle.sw_base.specs.Environment.{WhereTold};
+ghost use Rattle.sw_base.specs.OnlyReads.{OnlyReads};
 ghost use Rattle.kernel_syntax.specs.Bounds.{IsBounded};
 ghost use Rattle.kernel_syntax.specs.Program.{program_of};
 ghost use Rattle.kernel_file.specs.Holding.{HoldsKernel, IsOfText, IsRefusal};
@@ -61,9 +62,7 @@ pub fn read_kernel_file<F: Folder>(
     ensures alone { IfOk result (λ k. k.main.span ≡ 1) }
     ensures refused { IfErr result (λ why. WhereTold (F.state folder.old).content (λ c. IsRefusal c.held name.now why)) }
 
-    ensures same { F.state folder.new ≡ F.state folder.old }
-    ensures later { F.read_faults folder.old ≤ F.read_faults folder.new }
-    ensures cause { IfErr result (λ why. why ≡ refusal.Trouble trouble.Failed → Rose (F.read_faults folder.old) (F.read_faults folder.new)) }
+    ensures reads { OnlyReads F.Folder folder.old folder.new (IsErrOf result (refusal.Trouble trouble.Failed)) }
 {
     let Some(text) = read_file(alloc, folder, name)? else {
         return Err(KernelRefusal::NoKernel);

@@ -1,6 +1,6 @@
 -- How a task follows its log: what it has done is its trace so far, under the values that the log tells, as far as the log was read.
-use Rattle.std.specs.Prelude.{◌≡◌, ◌⊎◌, ℕ, ◌+◌, ◌-◌, ◌≤◌, List, [], ◌∷◌, ◌++◌, length, min, ℤ, Option, Some, Result, Ok, Err, IsErrOf}
-use Rattle.sw_base.specs.Environment.{Content, FolderState, Rose}
+use Rattle.std.specs.Prelude.{◌≡◌, ◌⊎◌, ℕ, ◌+◌, ◌-◌, ◌≤◌, List, [], ◌∷◌, ◌++◌, length, min, ℤ, Option, Some, Result, Ok, Err}
+use Rattle.sw_base.specs.Environment.{Content, FolderState}
 use Rattle.log_format.specs.declared.record.Record.{Record}
 use Rattle.log_format.specs.declared.record.Kind.{Kind}
 use Rattle.log_format.specs.declared.record.Kind.TheVariants as kind
@@ -18,12 +18,6 @@ pub record Standing : Type 0 where
   pub forks : List Fork
   pub reading : Reading
   pub count : ℕ
-
--- The folder tells the same after a call, and its count of read faults didn't fall, and rose where this fault is answered.
-pub record KeepsFolder {A E : Type 0} (fault : E) (old new : FolderState) (before now : ℕ) (result : Result A E) : Type 0 where
-  pub same : new ≡ old
-  pub later : before ≤ now
-  pub cause : IsErrOf result fault → Rose before now
 
 -- an End is among the records
 abbrev pub HasEnd : List Record → Type 0

@@ -1,5 +1,6 @@
 //! Lists of statements.
-ghost use Rattle.std.specs.Prelude.{◌≡◌, ◌+◌, ◌-◌, ◌*◌, ◌^◌, ◌<◌, ◌≤◌, pos, ◌+ℤ◌, ◌≤ℤ◌, IfOk, ℕ};
+ghost use Rattle.std.specs.Prelude.{◌≡◌, ◌+◌, ◌-◌, ◌*◌, ◌^◌, ◌<◌, ◌≤◌, pos, ◌+ℤ◌, ◌≤ℤ◌, IfOk, ℕ, IsErrOf};
+ghost use Rattle.sw_base.specs.OnlyReads.{OnlyReads};
 ghost use Rattle.kernel_syntax.specs.Bounds.{IsBoundedCode, IsBoundedSchedule};
 ghost use Rattle.kernel_syntax.specs.Program.{code_of, stmt_code, team_of, term_of};
 ghost use Rattle.kernel_syntax.specs.Tree as tree;
@@ -10,7 +11,7 @@ ghost use Rattle.kernel_model.specs.Drawing.{turn_from, draw_all, draw_once};
 ghost use Rattle.kernel_model.specs.Iterations.{chunk_count, chunk_iterations, static_iterations, total_of};
 ghost use Rattle.kernel_model.specs.Trace.{changed, each, loop_end, run, shared, turns};
 ghost use Rattle.kernel_model.specs.Value.{element_at};
-ghost use Rattle.log_replay.specs.Following.{Follows, KeepsFolder};
+ghost use Rattle.log_replay.specs.Following.{Follows};
 ghost use Rattle.log_replay.specs.Forks.{standing};
 ghost use Rattle.log_replay.specs.Sharing.{sharing};
 
@@ -56,7 +57,7 @@ impl<'k> Lane<'k> {
     ) -> Result<(), Stray>
         ensures follows { Follows (F.state folder.old) (changed (kind_of change) (element_at place.now.arrays array index) amount line site) (standing self.old) (standing self.new) result }
         ensures fewer { IfOk result (λ _. self.new.reader.left ≤ self.old.reader.left) }
-        ensures keeps { KeepsFolder Stray.ReadFault (F.state folder.old) (F.state folder.new) (F.read_faults folder.old) (F.read_faults folder.new) result }
+        ensures reads { OnlyReads F.Folder folder.old folder.new (IsErrOf result Stray.ReadFault) }
     {
         let Some(element) = place.element(array, index) else {
             return Err(self.stray());
@@ -77,7 +78,7 @@ impl<'k> Lane<'k> {
     ) -> Result<(), Stray>
         ensures follows { Follows (F.state folder.old) (run place.now (tree.Set slot (term_of expr.now) Done)) (standing self.old) (standing self.new) result }
         ensures fewer { IfOk result (λ _. self.new.reader.left ≤ self.old.reader.left) }
-        ensures keeps { KeepsFolder Stray.ReadFault (F.state folder.old) (F.state folder.new) (F.read_faults folder.old) (F.read_faults folder.new) result }
+        ensures reads { OnlyReads F.Folder folder.old folder.new (IsErrOf result Stray.ReadFault) }
     {
         let number = self.value(expr, alloc, folder, place)?;
         self.set(slot, number);
@@ -99,7 +100,7 @@ impl<'k> Lane<'k> {
     ) -> Result<(), Stray>
         ensures follows { Follows (F.state folder.old) (run place.now (changing change array (term_of index.now) (term_of expr.now) line site Done)) (standing self.old) (standing self.new) result }
         ensures fewer { IfOk result (λ _. self.new.reader.left ≤ self.old.reader.left) }
-        ensures keeps { KeepsFolder Stray.ReadFault (F.state folder.old) (F.state folder.new) (F.read_faults folder.old) (F.read_faults folder.new) result }
+        ensures reads { OnlyReads F.Folder folder.old folder.new (IsErrOf result Stray.ReadFault) }
     {
         let at = self.value(index, alloc, folder, place)?;
         let number = self.value(expr, alloc, folder, place)?;
@@ -118,7 +119,7 @@ impl<'k> Lane<'k> {
         requires bounded { IsBoundedCode (code_of team.now.body.stmts.items) }
         ensures follows { Follows (F.state folder.old) (run place.now (tree.Parallel team.now.span team.now.line team.now.end (code_of team.now.body.stmts.items) Done)) (standing self.old) (standing self.new) result }
         ensures fewer { IfOk result (λ _. self.new.reader.left ≤ self.old.reader.left) }
-        ensures keeps { KeepsFolder Stray.ReadFault (F.state folder.old) (F.state folder.new) (F.read_faults folder.old) (F.read_faults folder.new) result }
+        ensures reads { OnlyReads F.Folder folder.old folder.new (IsErrOf result Stray.ReadFault) }
     {
         let due = event(Kind::Region, team.line, 0, u64::from(team.span));
         self.put(alloc, folder, due)?;
@@ -137,7 +138,7 @@ impl<'k> Lane<'k> {
     ) -> Result<(), Stray>
         ensures follows { Follows (F.state folder.old) (loop_end nowait end) (standing self.old) (standing self.new) result }
         ensures fewer { IfOk result (λ _. self.new.reader.left ≤ self.old.reader.left) }
-        ensures keeps { KeepsFolder Stray.ReadFault (F.state folder.old) (F.state folder.new) (F.read_faults folder.old) (F.read_faults folder.new) result }
+        ensures reads { OnlyReads F.Folder folder.old folder.new (IsErrOf result Stray.ReadFault) }
     {
         if nowait {
             return Ok(());
@@ -157,7 +158,7 @@ impl<'k> Lane<'k> {
         requires bounded { IsBoundedCode (code_of body.now.stmts.items) }
         ensures follows { Follows (F.state folder.old) (run place.now (code_of body.now.stmts.items)) (standing self.old) (standing self.new) result }
         ensures fewer { IfOk result (λ _. self.new.reader.left ≤ self.old.reader.left) }
-        ensures keeps { KeepsFolder Stray.ReadFault (F.state folder.old) (F.state folder.new) (F.read_faults folder.old) (F.read_faults folder.new) result }
+        ensures reads { OnlyReads F.Folder folder.old folder.new (IsErrOf result Stray.ReadFault) }
     {
         for stmt in &body.stmts {
             self.statement(stmt, alloc, folder, place)?;
@@ -182,7 +183,7 @@ impl<'k> Lane<'k> {
         requires top { (from +ℤ pos (first + count)) ≤ℤ pos (2 ^ 63 - 1) }
         ensures follows { Follows (F.state folder.old) (turns count first (turn_from place.now (code_of body.now.stmts.items) slot from)) (standing self.old) (standing self.new) result }
         ensures fewer { IfOk result (λ _. self.new.reader.left ≤ self.old.reader.left) }
-        ensures keeps { KeepsFolder Stray.ReadFault (F.state folder.old) (F.state folder.new) (F.read_faults folder.old) (F.read_faults folder.new) result }
+        ensures reads { OnlyReads F.Folder folder.old folder.new (IsErrOf result Stray.ReadFault) }
     {
         for i in 0..count {
             self.set(slot, number_at(from, first, i));
@@ -206,7 +207,7 @@ impl<'k> Lane<'k> {
         requires bounded { IsBoundedCode (code_of body.now.stmts.items) }
         ensures follows { Follows (F.state folder.old) (run place.now (tree.Critical mutex line end (code_of body.now.stmts.items) Done)) (standing self.old) (standing self.new) result }
         ensures fewer { IfOk result (λ _. self.new.reader.left ≤ self.old.reader.left) }
-        ensures keeps { KeepsFolder Stray.ReadFault (F.state folder.old) (F.state folder.new) (F.read_faults folder.old) (F.read_faults folder.new) result }
+        ensures reads { OnlyReads F.Folder folder.old folder.new (IsErrOf result Stray.ReadFault) }
     {
         self.put(alloc, folder, event(Kind::Lock, line, u64::from(mutex), 0))?;
         self.statements(body, alloc, folder, place)?;
@@ -231,7 +232,7 @@ impl<'k> Lane<'k> {
         requires top { (from +ℤ pos total) ≤ℤ pos (2 ^ 63 - 1) }
         ensures follows { Follows (F.state folder.old) (each (static_iterations chunk total place.now.lane place.now.span) (turn_from place.now (code_of body.now.stmts.items) slot from)) (standing self.old) (standing self.new) result }
         ensures fewer { IfOk result (λ _. self.new.reader.left ≤ self.old.reader.left) }
-        ensures keeps { KeepsFolder Stray.ReadFault (F.state folder.old) (F.state folder.new) (F.read_faults folder.old) (F.read_faults folder.new) result }
+        ensures reads { OnlyReads F.Folder folder.old folder.new (IsErrOf result Stray.ReadFault) }
     {
         let chunk = u64::from(chunk);
         let stride = chunk * u64::from(place.span());
@@ -264,7 +265,7 @@ impl<'k> Lane<'k> {
         ensures follows { Follows (F.state folder.old) (draw_once line (chunk_count chunk total) (λ q. each (chunk_iterations chunk total q) (turn_from place.now (code_of body.now.stmts.items) slot from))) (standing self.old) (standing self.new) result }
         ensures less { IfOk result (λ _. self.new.reader.left < self.old.reader.left) }
         ensures fewer { IfOk result (λ _. self.new.reader.left ≤ self.old.reader.left) }
-        ensures keeps { KeepsFolder Stray.ReadFault (F.state folder.old) (F.state folder.new) (F.read_faults folder.old) (F.read_faults folder.new) result }
+        ensures reads { OnlyReads F.Folder folder.old folder.new (IsErrOf result Stray.ReadFault) }
     {
         let chunks = total.div_ceil(chunk);
         let number = self.draw(alloc, folder, line, chunks)?;
@@ -296,7 +297,7 @@ impl<'k> Lane<'k> {
         requires top { (from +ℤ pos total) ≤ℤ pos (2 ^ 63 - 1) }
         ensures follows { Follows (F.state folder.old) (draw_all line (chunk_count chunk total) (λ q. each (chunk_iterations chunk total q) (turn_from place.now (code_of body.now.stmts.items) slot from))) (standing self.old) (standing self.new) result }
         ensures fewer { IfOk result (λ _. self.new.reader.left ≤ self.old.reader.left) }
-        ensures keeps { KeepsFolder Stray.ReadFault (F.state folder.old) (F.state folder.new) (F.read_faults folder.old) (F.read_faults folder.new) result }
+        ensures reads { OnlyReads F.Folder folder.old folder.new (IsErrOf result Stray.ReadFault) }
     {
         'draws: loop {
             if !self.drawn_chunk(body, alloc, folder, place, slot, from, total, chunk, line)? {
@@ -324,7 +325,7 @@ impl<'k> Lane<'k> {
         requires top { (from +ℤ pos total) ≤ℤ pos (2 ^ 63 - 1) }
         ensures follows { Follows (F.state folder.old) (shared schedule place.now line total (turn_from place.now (code_of body.now.stmts.items) slot from)) (standing self.old) (standing self.new) result }
         ensures fewer { IfOk result (λ _. self.new.reader.left ≤ self.old.reader.left) }
-        ensures keeps { KeepsFolder Stray.ReadFault (F.state folder.old) (F.state folder.new) (F.read_faults folder.old) (F.read_faults folder.new) result }
+        ensures reads { OnlyReads F.Folder folder.old folder.new (IsErrOf result Stray.ReadFault) }
     {
         match schedule {
             Schedule::Even => {
@@ -359,7 +360,7 @@ impl<'k> Lane<'k> {
         requires chunk { IsBoundedSchedule schedule }
         ensures follows { Follows (F.state folder.old) (sharing place.now slot (term_of from.now) (term_of to.now) schedule line (code_of body.now.stmts.items)) (standing self.old) (standing self.new) result }
         ensures fewer { IfOk result (λ _. self.new.reader.left ≤ self.old.reader.left) }
-        ensures keeps { KeepsFolder Stray.ReadFault (F.state folder.old) (F.state folder.new) (F.read_faults folder.old) (F.read_faults folder.new) result }
+        ensures reads { OnlyReads F.Folder folder.old folder.new (IsErrOf result Stray.ReadFault) }
     {
         let first = self.value(from, alloc, folder, place)?;
         let last = self.value(to, alloc, folder, place)?;
@@ -384,7 +385,7 @@ impl<'k> Lane<'k> {
         requires bounded { IsBoundedCode (code_of body.now.stmts.items) }
         ensures follows { Follows (F.state folder.old) (run place.now (tree.Loop slot (term_of from.now) (term_of to.now) (code_of body.now.stmts.items) Done)) (standing self.old) (standing self.new) result }
         ensures fewer { IfOk result (λ _. self.new.reader.left ≤ self.old.reader.left) }
-        ensures keeps { KeepsFolder Stray.ReadFault (F.state folder.old) (F.state folder.new) (F.read_faults folder.old) (F.read_faults folder.new) result }
+        ensures reads { OnlyReads F.Folder folder.old folder.new (IsErrOf result Stray.ReadFault) }
     {
         let first = self.value(from, alloc, folder, place)?;
         let last = self.value(to, alloc, folder, place)?;
@@ -404,7 +405,7 @@ impl<'k> Lane<'k> {
         requires bounded { IsBoundedCode (stmt_code stmt.now Done) }
         ensures follows { Follows (F.state folder.old) (run place.now (stmt_code stmt.now Done)) (standing self.old) (standing self.new) result }
         ensures fewer { IfOk result (λ _. self.new.reader.left ≤ self.old.reader.left) }
-        ensures keeps { KeepsFolder Stray.ReadFault (F.state folder.old) (F.state folder.new) (F.read_faults folder.old) (F.read_faults folder.new) result }
+        ensures reads { OnlyReads F.Folder folder.old folder.new (IsErrOf result Stray.ReadFault) }
     {
         match stmt {
             Stmt::Set { slot, value } => self.assign(value, alloc, folder, place, *slot),

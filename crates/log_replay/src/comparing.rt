@@ -7,11 +7,12 @@ ghost use Rattle.kernel_syntax.specs.Bounds.{IsBoundedCode};
 ghost use Rattle.kernel_syntax.specs.Program.{Program, code_of, team_of};
 ghost use Rattle.kernel_model.specs.Trace.{log_limit};
 ghost use Rattle.race_model.specs.LogFault.{IsWholeLog};
-ghost use Rattle.log_replay.specs.Following.{HasEnd, IsAt, KeepsFolder};
+ghost use Rattle.log_replay.specs.Following.{HasEnd, IsAt};
 ghost use Rattle.log_replay.specs.Forks.{fork_of, standing};
 ghost use Rattle.task_place.specs.Placing.{HasLane};
 ghost use Rattle.log_replay.specs.Task.{Compares, EndsLog, IsFollowed, StraysSo};
-ghost use Rattle.sw_base.specs.Environment.{HasCause, Rose, WhereTold};
+ghost use Rattle.sw_base.specs.Environment.{WhereTold};
+ghost use Rattle.sw_base.specs.OnlyReads.{OnlyReads};
 
 use crate::forked::Forked;
 use crate::lane::{Lane, event, is_same};
@@ -37,8 +38,7 @@ impl<'k> Lane<'k> {
             → HasEnd log → length log ≤ log_limit → IsAt (F.state folder.old) log [] log (standing lane))) }
         ensures slots { IfOk result (λ lane. lane.locals.slots.items ≡ slots.items) }
         ensures forks { IfOk result (λ lane. lane.forks.items ≡ []) }
-        ensures same { F.state folder.new ≡ F.state folder.old }
-        ensures cause { HasCause (F.read_faults folder.old) (F.read_faults folder.new) result }
+        ensures reads { OnlyReads F.Folder folder.old folder.new (IsErrOf result Trouble.Failed) }
     {
         let mut reader = LogReader::new(alloc)?;
         reader.open(alloc, FORMAT, folder, dir, path, records)?;
@@ -53,7 +53,7 @@ impl<'k> Lane<'k> {
     // Puts the End of the task, which is to be the last record of the log.
     fn finish<F: Folder>(&mut self, alloc: Global, folder: &mut F, line: u32) -> Result<(), Stray>
         ensures ends { (log done rest : List Record) → IsAt (F.state folder.old) log done rest (standing self.old) → EndsLog log done line (standing self.old) (standing self.new) result }
-        ensures keeps { KeepsFolder Stray.ReadFault (F.state folder.old) (F.state folder.new) (F.read_faults folder.old) (F.read_faults folder.new) result }
+        ensures reads { OnlyReads F.Folder folder.old folder.new (IsErrOf result Stray.ReadFault) }
     {
         let next = self.next(alloc, folder)?;
         let due = event(Kind::End, line, 0, 0);
@@ -78,7 +78,7 @@ impl<'k> Lane<'k> {
         ensures compares { (log : List Record) → IsAt (F.state folder.old) log [] log (standing self.old) → self.old.forks.items ≡ [] → (program : Program) → program.arrays ≡ place.now.arrays
             → team.now.span ≡ place.now.span
             → Compares program (record { team = team_of team.now; lane = place.now.lane; slots = self.old.locals.slots.items }) log (standing self.new) result }
-        ensures keeps { KeepsFolder Stray.ReadFault (F.state folder.old) (F.state folder.new) (F.read_faults folder.old) (F.read_faults folder.new) result }
+        ensures reads { OnlyReads F.Folder folder.old folder.new (IsErrOf result Stray.ReadFault) }
     {
         self.statements(&team.body, alloc, folder, place)?;
         self.finish(alloc, folder, team.end)
@@ -108,9 +108,7 @@ pub fn follow<'k, F: Folder>(
         → HasEnd log → length log ≤ log_limit → (program : Program) → program.arrays ≡ arrays.now
         → StraysSo program (record { team = team_of team.now; lane = lane; slots = slots.items }) log e)) }
 
-    ensures same { F.state folder.new ≡ F.state folder.old }
-    ensures later { F.read_faults folder.old ≤ F.read_faults folder.new }
-    ensures cause { IsErrOf result Stray.ReadFault → Rose (F.read_faults folder.old) (F.read_faults folder.new) }
+    ensures reads { OnlyReads F.Folder folder.old folder.new (IsErrOf result Stray.ReadFault) }
 {
     let mut begun = Lane::begin(alloc, folder, dir, path, records, slots)?;
     let place = Place::new(arrays, lane, team.span);

@@ -1,5 +1,6 @@
 //! A task that follows its log: its locals, the regions that it forked, and the log, read record by record.
-ghost use Rattle.std.specs.Prelude.{◌≡◌, ◌↔◌, ◌+◌, ◌≤◌, ◌<◌, min, List, IfOk, IsTrue, slice_set};
+ghost use Rattle.std.specs.Prelude.{◌≡◌, ◌↔◌, ◌+◌, ◌≤◌, ◌<◌, min, List, IfOk, IsTrue, slice_set, IsErrOf};
+ghost use Rattle.sw_base.specs.OnlyReads.{OnlyReads};
 ghost use Rattle.log_format.specs.declared.record.Kind.{Kind};
 ghost use Rattle.log_format.specs.declared.record.Record.{Record};
 ghost use Rattle.log_format.specs.declared.record.Kind.TheVariants as kind;
@@ -7,7 +8,7 @@ ghost use Rattle.kernel_model.specs.State.{put, event};
 ghost use Rattle.kernel_model.specs.Trace.{draw};
 ghost use Rattle.kernel_model.specs.Value.{access, read};
 ghost use Rattle.log_format.specs.Fitting.{IsWidth};
-ghost use Rattle.log_replay.specs.Following.{Follows, IsAt, IsMark, KeepsFolder, Takes};
+ghost use Rattle.log_replay.specs.Following.{Follows, IsAt, IsMark, Takes};
 ghost use Rattle.log_replay.specs.Forks.{standing};
 ghost use Rattle.task_place.specs.Placing.{meant};
 ghost use Rattle.log_replay.specs.declared.stray.Stray.TheVariants as stray;
@@ -84,7 +85,7 @@ impl<'k> Lane<'k> {
     pub(crate) fn next<F: Folder>(&mut self, alloc: Global, folder: &mut F) -> Result<Record, Stray>
         ensures takes { (log done rest : List Record) → IsAt (F.state folder.old) log done rest (standing self.old) → Takes (F.state folder.old) rest (standing self.old) (standing self.new) result }
         ensures less { IfOk result (λ _. self.new.reader.left < self.old.reader.left) }
-        ensures keeps { KeepsFolder Stray.ReadFault (F.state folder.old) (F.state folder.new) (F.read_faults folder.old) (F.read_faults folder.new) result }
+        ensures reads { OnlyReads F.Folder folder.old folder.new (IsErrOf result Stray.ReadFault) }
     {
         match self.reader.next(alloc, folder)? {
             Some(next) => {
@@ -107,7 +108,7 @@ impl<'k> Lane<'k> {
         requires { IsWidth element.now.width }
         ensures follows { Follows (F.state folder.old) (read (meant element.now) site line) (standing self.old) (standing self.new) result }
         ensures fewer { IfOk result (λ _. self.new.reader.left ≤ self.old.reader.left) }
-        ensures keeps { KeepsFolder Stray.ReadFault (F.state folder.old) (F.state folder.new) (F.read_faults folder.old) (F.read_faults folder.new) result }
+        ensures reads { OnlyReads F.Folder folder.old folder.new (IsErrOf result Stray.ReadFault) }
     {
         let next = self.next(alloc, folder)?;
         let value = fit(next.value.cast_signed(), element.width);
@@ -128,7 +129,7 @@ impl<'k> Lane<'k> {
         requires { IsMark due.kind }
         ensures follows { Follows (F.state folder.old) (put due) (standing self.old) (standing self.new) result }
         ensures fewer { IfOk result (λ _. self.new.reader.left ≤ self.old.reader.left) }
-        ensures keeps { KeepsFolder Stray.ReadFault (F.state folder.old) (F.state folder.new) (F.read_faults folder.old) (F.read_faults folder.new) result }
+        ensures reads { OnlyReads F.Folder folder.old folder.new (IsErrOf result Stray.ReadFault) }
     {
         let next = self.next(alloc, folder)?;
         if !is_same(&next, &due) {
@@ -148,7 +149,7 @@ impl<'k> Lane<'k> {
         ensures follows { Follows (F.state folder.old) (draw line chunks) (standing self.old) (standing self.new) result }
         ensures within { IfOk result (λ number. number ≤ chunks) }
         ensures less { IfOk result (λ _. self.new.reader.left < self.old.reader.left) }
-        ensures keeps { KeepsFolder Stray.ReadFault (F.state folder.old) (F.state folder.new) (F.read_faults folder.old) (F.read_faults folder.new) result }
+        ensures reads { OnlyReads F.Folder folder.old folder.new (IsErrOf result Stray.ReadFault) }
     {
         let next = self.next(alloc, folder)?;
         let due = event(Kind::Chunk, line, next.addr.min(chunks), chunks);

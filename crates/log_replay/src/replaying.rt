@@ -1,8 +1,9 @@
 //! All tasks of a folder against a kernel.
-ghost use Rattle.std.specs.Prelude.{◌≡◌, ◌≤◌, List, [], length, IfOk, IfErr, IsErrOf};
+ghost use Rattle.std.specs.Prelude.{◌≡◌, ◌↔◌, ◌≤◌, List, [], length, IfOk, IfErr, IsErrOf};
 ghost use Rattle.log_format.specs.declared.format.TheConstants.{FORMAT};
 ghost use Rattle.log_format.specs.declared.record.Record.{Record};
-ghost use Rattle.sw_base.specs.Environment.{Rose, WhereTold};
+ghost use Rattle.sw_base.specs.Environment.{WhereTold};
+ghost use Rattle.sw_base.specs.OnlyReads.{OnlyReads};
 ghost use Rattle.race_model.specs.FirstBad.{HoldsLogs, HoldsTrace, rows_of};
 ghost use Rattle.race_model.specs.KeepsRules.{KeepsRules};
 ghost use Rattle.race_model.specs.LogFault.{IsWholeLog};
@@ -12,7 +13,7 @@ ghost use Rattle.kernel_syntax.specs.Program.{program_of};
 ghost use Rattle.kernel_model.specs.Trace.{log_limit};
 ghost use Rattle.log_walk.specs.Walk.{TellsFirstBad};
 ghost use Rattle.log_replay.specs.Ancestors.{ComparesTask, IsFoundOf, KeepsAllForks, forks_kept};
-ghost use Rattle.log_replay.specs.Following.{HasEnd, KeepsFolder};
+ghost use Rattle.log_replay.specs.Following.{HasEnd};
 ghost use Rattle.log_replay.specs.declared.stray.Stray.TheVariants as strays;
 ghost use Rattle.log_replay.specs.Replaying.{AnswersFolder, IsReplayable, IsReplayed, IsTroubled};
 
@@ -39,7 +40,7 @@ pub enum Replayed {
 fn found_of(stray: Stray) -> Result<Option<u32>, WalkFault>
     ensures found { IfOk result (λ found. IsFoundOf stray found) }
     ensures only_faults { IfErr result (λ e. IsTroubled e) }
-    ensures fault { IsErrOf result WalkFault.ReadFault → stray ≡ strays.ReadFault }
+    ensures fault { (IsErrOf result WalkFault.ReadFault) ↔ (stray ≡ strays.ReadFault) }
 {
     match stray {
         Stray::Differs { number } => Ok(Some(number)),
@@ -63,7 +64,7 @@ fn compare_task<'k, F: Folder>(
         → IsWholeLog FORMAT c.held dir.now row.now.path (logs row.now.path) → row.now.records ≡ length (logs row.now.path) → HasEnd (logs row.now.path) → length (logs row.now.path) ≤ log_limit
         → ComparesTask (program_of kernel.now) logs row.now.path (forks_kept kept.old.items) (forks_kept kept.new.items) found)) }
     ensures only_faults { IfErr result (λ e. IsTroubled e) }
-    ensures keeps { KeepsFolder WalkFault.ReadFault (F.state folder.old) (F.state folder.new) (F.read_faults folder.old) (F.read_faults folder.new) result }
+    ensures reads { OnlyReads F.Folder folder.old folder.new (IsErrOf result WalkFault.ReadFault) }
 {
     let Some(start) = find_start(alloc, kernel, kept, &row.path)? else {
         return Ok(Some(1));
@@ -101,7 +102,7 @@ fn compare_rows<F: Folder>(
     ensures compares { IfOk result (λ found. WhereTold (F.state folder.old).content (λ c. (tasks : Trace) → rows_of tasks ≡ rows.now → HoldsLogs FORMAT c.held dir.now tasks → KeepsRules FORMAT tasks
         → IsReplayed (program_of kernel.now) tasks found)) }
     ensures only_faults { IfErr result (λ e. IsTroubled e) }
-    ensures keeps { KeepsFolder WalkFault.ReadFault (F.state folder.old) (F.state folder.new) (F.read_faults folder.old) (F.read_faults folder.new) result }
+    ensures reads { OnlyReads F.Folder folder.old folder.new (IsErrOf result WalkFault.ReadFault) }
 {
     let mut kept = Vec::new(alloc);
     'rows: for row in rows {
@@ -127,9 +128,7 @@ pub fn replay<F: Folder>(
     ensures compares { IfOk result (λ found. AnswersFolder (program_of kernel.now) (F.state folder.old).content dir.now found) }
     ensures refused { IfErr result (λ e. WhereTold (F.state folder.old).content (λ c. TellsFirstBad FORMAT c.held dir.now e)) }
 
-    ensures same { F.state folder.new ≡ F.state folder.old }
-    ensures later { F.read_faults folder.old ≤ F.read_faults folder.new }
-    ensures cause { IsErrOf result WalkFault.ReadFault → Rose (F.read_faults folder.old) (F.read_faults folder.new) }
+    ensures reads { OnlyReads F.Folder folder.old folder.new (IsErrOf result WalkFault.ReadFault) }
 {
     let sweep = sweep_all(alloc, folder, dir)?;
     compare_rows(alloc, kernel, folder, dir, sweep.rows())

@@ -3,7 +3,7 @@ use std::alloc::{AllocError, AllocFailed};
 use sw_base::{Memory, Trouble};
 
 /// Why a task doesn't follow its log any further.
-#[derive(Clone, Copy, Debug, PartialEq, Eq)]
+#[derive(Clone, Copy)]
 pub enum Stray {
     /// This record of the log isn't the trace's, numbered from 1.
     Differs { number: u32 },

@@ -1,10 +1,11 @@
 //! The value of an expression.
-ghost use Rattle.std.specs.Prelude.{◌≡◌, ◌≤◌, ◌+◌, min, ok_or, IfOk};
+ghost use Rattle.std.specs.Prelude.{◌≡◌, ◌≤◌, ◌+◌, min, ok_or, IfOk, IsErrOf};
+ghost use Rattle.sw_base.specs.OnlyReads.{OnlyReads};
 ghost use Rattle.log_replay.specs.declared.stray.Stray.TheVariants as stray;
 ghost use Rattle.kernel_syntax.specs.Arithmetic.{applied};
 ghost use Rattle.kernel_syntax.specs.Program.{term_of};
 ghost use Rattle.kernel_model.specs.Value.{element_at, loaded, value};
-ghost use Rattle.log_replay.specs.Following.{Follows, KeepsFolder};
+ghost use Rattle.log_replay.specs.Following.{Follows};
 ghost use Rattle.log_replay.specs.Forks.{standing};
 
 use crate::lane::Lane;
@@ -29,7 +30,7 @@ impl<'k> Lane<'k> {
     ) -> Result<i64, Stray>
         ensures follows { Follows (F.state folder.old) (loaded (element_at place.now.arrays array index) line site) (standing self.old) (standing self.new) result }
         ensures fewer { IfOk result (λ _. self.new.reader.left ≤ self.old.reader.left) }
-        ensures keeps { KeepsFolder Stray.ReadFault (F.state folder.old) (F.state folder.new) (F.read_faults folder.old) (F.read_faults folder.new) result }
+        ensures reads { OnlyReads F.Folder folder.old folder.new (IsErrOf result Stray.ReadFault) }
     {
         let Some(element) = place.element(array, index) else {
             return Err(self.stray());
@@ -54,7 +55,7 @@ impl<'k> Lane<'k> {
     ) -> Result<i64, Stray>
         ensures follows { Follows (F.state folder.old) (value place.now (term_of expr.now)) (standing self.old) (standing self.new) result }
         ensures fewer { IfOk result (λ _. self.new.reader.left ≤ self.old.reader.left) }
-        ensures keeps { KeepsFolder Stray.ReadFault (F.state folder.old) (F.state folder.new) (F.read_faults folder.old) (F.read_faults folder.new) result }
+        ensures reads { OnlyReads F.Folder folder.old folder.new (IsErrOf result Stray.ReadFault) }
     {
         match expr {
             Expr::Number(number) => Ok(*number),

@@ -84,7 +84,7 @@ const RACING: Case<'static> = Case {
 
 const RACES_FOUND: Calls<'static> = Calls {
     case: RACING,
-    reads: 15,
+    reads: 9,
     prints: 2,
     ..NONE
 };
@@ -96,7 +96,7 @@ const CUT: Calls<'static> = Calls {
         asked: &[(CHECK, FOLDER_REFUSED, "bad log t-0.1.swl record 1: Cut\n")],
         ..RACING
     },
-    reads: 15,
+    reads: 10,
     ..NONE
 };
 
@@ -150,13 +150,13 @@ macro_rules! nested {
 
 const SAME: Calls<'static> = Calls {
     case: nested!(6, &[(REPLAY, DONE, "same\n")]),
-    reads: 40,
+    reads: 26,
     ..NONE
 };
 
 const DIFFERING: Calls<'static> = Calls {
     case: nested!(5, &[(REPLAY, DIFFERS, "differs t-0.1-0.1.swl record 1\n")]),
-    reads: 40,
+    reads: 26,
     ..NONE
 };
 
@@ -168,7 +168,7 @@ fn each_call_of_a_replay_may_fail(rt: HostRuntime) {
 
 const SHOWN: Calls<'static> = Calls {
     case: nested!(6, &[(SHOW, DONE, "log t.swl records 2\n...")]),
-    reads: 38,
+    reads: 24,
     ..NONE
 };
 
@@ -203,9 +203,9 @@ const BROUGHT: Calls<'static> = Calls {
         asked: &[(&["upgrade", "d", "e"], DONE, "upgraded 3\n")],
         ..EMPTY
     },
-    reads: 19,
+    reads: 13,
     writes: 4,
-    puts: &[18, 20, 22, 23],
+    puts: &[12, 14, 16, 17],
     made: &["e/t.swl", "e/t-0.0.swl", "e/t-0.1.swl", "e/index.swi"],
     ..NONE
 };
@@ -224,7 +224,7 @@ const EXPLAINED: Calls<'static> = Calls {
         )],
         ..RACING
     },
-    reads: 23,
+    reads: 14,
     ..NONE
 };
 
@@ -237,7 +237,7 @@ const CONFIRMED: Calls<'static> = Calls {
         )],
         ..RACING
     },
-    reads: 17,
+    reads: 11,
     ..NONE
 };
 

@@ -59,20 +59,20 @@ fn answered<R: Abort + Threads + Wait + Sync + Copy + Send + 'static>(
 #[test]
 fn a_region_is_compared_before_the_next_is_read(rt: HostRuntime) {
     let alloc = rt.alloc();
-    // The size of the index and its seven reads, and for each of five logs its size and two reads.
-    for call in 1..=17 {
+    // The size of the index and its two reads, and for each of five logs its size and one read.
+    for call in 1..=9 {
         assert!(rt;
             answered(&rt, alloc, call) == (READ_FAULT, 0),
             "call {call}"
         );
     }
-    for call in 18..24 {
+    for call in 10..14 {
         assert!(rt;
             answered(&rt, alloc, call) == (READ_FAULT, WORKERS),
             "call {call}"
         );
     }
-    assert!(rt; answered(&rt, alloc, 24) == (RACES, 2 * WORKERS));
+    assert!(rt; answered(&rt, alloc, 14) == (RACES, 2 * WORKERS));
 }
 
 const REGIONS: u32 = 100;

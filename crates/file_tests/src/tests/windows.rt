@@ -123,14 +123,15 @@ fn fails<F: Folder>(
 #[test]
 fn a_read_that_fails_loses_nothing(rt: HostRuntime) {
     let alloc = rt.alloc();
-    let mut folder = folder_of(alloc, "name", b"abcdefgh").expect(&rt, "memory");
+    let mut folder = folder_of(alloc, "name", b"abcdefghij").expect(&rt, "memory");
     folder.fail(&[2, 3]).expect(&rt, "memory");
-    let mut window = Window::new(alloc, 3).expect(&rt, "memory");
+    let mut folder = ShortReads { folder };
+    let mut window = Window::new(alloc, 8).expect(&rt, "memory");
     let told = [
-        fails(alloc, &mut window, &mut folder, 7, b"abc"),
-        skips(&mut window, 1),
-        fails(alloc, &mut window, &mut folder, 7, b"bc"),
-        shows(alloc, &mut window, &mut folder, "name", 7, b"bcdefgh"),
+        fails(alloc, &mut window, &mut folder, 8, b"abcde"),
+        skips(&mut window, 3),
+        fails(alloc, &mut window, &mut folder, 7, b"de"),
+        shows(alloc, &mut window, &mut folder, "name", 7, b"defghij"),
     ];
     assert!(rt; told == [true; 4], "{told:?}");
 }

@@ -265,8 +265,8 @@ fn a_read_that_fails_beside_others_is_told(rt: HostRuntime) {
         writes: 45_000,
         ..PLAIN
     };
-    // The size of the index and its nine reads; for the root, three lanes and the two inner ones a size and two reads, and for the
+    // The size of the index and its two reads; for the root, three lanes and the two inner ones a size and one read, and for the
     // third lane, whose log takes two windows, one read more.
     let calls = first_untold(&rt, rt.alloc(), &[PLAIN, forking(PLAIN), long, PLAIN], 4);
-    assert!(rt; calls == 33, "{calls}");
+    assert!(rt; calls == 19, "{calls}");
 }

@@ -688,9 +688,9 @@ fn failing_at(rt: &impl Abort, alloc: Global, files: &Files<'_>, call: u64) -> M
 
 #[test]
 fn each_read_that_fails_is_told(rt: HostRuntime) {
-    // The size of the index and its five reads, and for each of three logs its size and two reads.
-    for call in 1..17 {
-        let due = if call < 16 {
+    // The size of the index and its two reads, and for each of three logs its size and one read.
+    for call in 1..11 {
+        let due = if call < 10 {
             Told::ReadFault
         } else {
             Told::Good
@@ -730,11 +730,11 @@ fn regions_given<F: Folder>(alloc: Global, folder: &mut F, dir: &str) -> u32 {
 
 #[test]
 fn a_region_is_given_before_the_next_is_read(rt: HostRuntime) {
-    // The size of the index and its five reads, and for each of three logs its size and two reads.
-    for call in 1..17 {
-        let given = if call <= 12 {
+    // The size of the index and its two reads, and for each of three logs its size and one read.
+    for call in 1..11 {
+        let given = if call <= 7 {
             0
-        } else if call <= 15 {
+        } else if call <= 9 {
             1
         } else {
             2

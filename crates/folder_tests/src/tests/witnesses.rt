@@ -308,9 +308,9 @@ fn a_bad_folder_is_refused(rt: HostRuntime) {
 
 #[test]
 fn each_failing_read_is_told(rt: HostRuntime) {
-    // Fifteen calls of the sweep, and one for each of the two logs that are read again.
-    for call in 1..19 {
-        let due = if call < 18 {
+    // Nine calls of the sweep, and one for each of the two logs that are read again.
+    for call in 1..13 {
+        let due = if call < 12 {
             Told::ReadFault
         } else {
             Told::Race
@@ -349,8 +349,8 @@ fn late_answer(rt: &impl Abort, alloc: Global, call: u64) -> Told {
 #[test]
 fn each_failing_read_of_a_long_log_is_told(rt: HostRuntime) {
     // One call more of the sweep than for short logs, and one more where the long log is read again.
-    for call in 1..21 {
-        let due = if call < 20 {
+    for call in 1..15 {
+        let due = if call < 14 {
             Told::ReadFault
         } else {
             Told::Race

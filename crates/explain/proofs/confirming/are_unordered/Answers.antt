@@ -40,5 +40,5 @@ returns-clause-unordered g c = λ x told trace run one other one_in other_in one
     let other_there = record_there (logs_of trace) other _ other_is.event in
     told_unordered (logs_of trace) one other (tree x c.args.dir.now c.args.rows.now trace run) one_there other_there c.parting.result exact c.in-Some.level c.in-Some.is c.in_ok-mine.mine c.in_ok-yours.yours
     (c.in_ok-mine.ensures.passed x told trace run one one_in one_there (slice_get_within one.path c.in-Some.level p.step p.mine) one_is.barriers)
-    (c.in_ok-yours.ensures.passed x (ap (λ s. s.content) c.in_ok-mine.ensures.same ∙ told) trace run other other_in other_there (slice_get_within other.path c.in-Some.level p.beside p.yours) other_is.barriers)
+    (c.in_ok-yours.ensures.passed x (ap (λ s. s.content) c.in_ok-mine.ensures.reads.same ∙ told) trace run other other_in other_there (slice_get_within other.path c.in-Some.level p.beside p.yours) other_is.barriers)
     c.are_as_many.result c.are_as_many.ensures

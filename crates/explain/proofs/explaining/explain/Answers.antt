@@ -10,7 +10,7 @@ use Rattle.explain.proofs.explaining.explain.Goals as goal
 pub returns-clause-explained : goal.returns-clause-explained
 returns-clause-explained g c = λ x told trace holds.
     let all = c.in_ok-sweep.ensures.all in
-    c.least_among.ensures.explains x (ap (λ s. s.content) c.in_ok-sweep.ensures.same ∙ told) trace (good_run all.1 x told c.rows.result.now (sym c.rows.ensures) trace holds)
+    c.least_among.ensures.explains x (ap (λ s. s.content) c.in_ok-sweep.ensures.reads.same ∙ told) trace (good_run all.1 x told c.rows.result.now (sym c.rows.ensures) trace holds)
     (subst (λ (t : Trace). HoldAccesses t (c.args.low, c.args.high) c.deref.result.now) (sym (same_trace all.1 x told trace holds)) (subst (λ (xs : List Segment). HoldAccesses all.0 (c.args.low, c.args.high) xs) (sym c.deref.ensures.value) all.2))
 
 pub returns-clause-pair : goal.returns-clause-pair

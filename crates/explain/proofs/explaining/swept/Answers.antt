@@ -1,4 +1,4 @@
-use Rattle.std.proofs.Common.{◌≡◌, List, [], ◌∷◌, ◌++◌, Option, ap, sym, subst, ◌∙◌, arith}
+use Rattle.std.proofs.Common.{rules, ◌≡◌, List, [], ◌∷◌, ◌++◌, Option, ap, sym, subst, ◌∙◌, arith}
 use Rattle.std.proofs.lemmas.Result.{err_from_is_err_and}
 use Rattle.log_format.specs.declared.format.TheConstants.{FORMAT}
 use Rattle.log_segment.specs.declared.segment.Segment.{Segment}
@@ -29,8 +29,8 @@ regions-init g c =
       so = record { trace = b.root ∷ []; swept = b.swept; in_order = b.gives.in_order };
       keeps = subst (λ (xs : List Segment). Keeps (IsOnLines c.args.lines) xs c.keep_lines.new.kept.items) c.deref.ensures.value c.in_ok-keep_lines.ensures.keeps;
       fresh = λ e refused. none_is_some e (sym b.fresh ∙ refused);
-      same = c.in_ok-sweep.ensures.same;
-      later = c.in_ok-sweep.ensures.later;
+      same = c.in_ok-sweep.ensures.reads.same;
+      no_fault = search rules;
     }
 
 pub regions-preserved : goal.regions-preserved
@@ -45,8 +45,8 @@ regions-preserved g c =
       keeps = keeps_more c.args.lines c.regions.invariant.all c.in-Some.region.items c.regions.kept.items c.keep_lines-in-Some.new.kept.items c.in_ok-keep_lines-2.ensures.old c.regions.invariant.keeps
           (subst (λ (xs : List Segment). Keeps (IsOnLines c.args.lines) xs c.keep_lines-in-Some.new.kept.items) c.deref-in-Some.ensures.value c.in_ok-keep_lines-2.ensures.keeps);
       fresh = c.in_ok-region.ensures.next.unrefused;
-      same = c.in_ok-region.ensures.same ∙ c.regions.invariant.same;
-      later = omega (arith, c.in_ok-region.ensures.later, c.regions.invariant.later);
+      same = c.in_ok-region.ensures.reads.same ∙ c.regions.invariant.same;
+      no_fault = search rules;
     }
 
 pub returns-clause-all : goal.returns-clause-all

@@ -14,7 +14,7 @@ invariant-regions g l = record {
   keeps : Keeps (IsOnLines l.lines) all l.kept.items;
   fresh : (e : WalkFault) → HasRefused l.sweep e → ⊥;
   same : g.F.Folder.state l.folder ≡ g.F.Folder.state l.fn.folder;
-  later : g.F.Folder.read_faults l.fn.folder ≤ g.F.Folder.read_faults l.folder;
+  no_fault : g.F.Folder.read_faults l.folder ≡ g.F.Folder.read_faults l.fn.folder;
 }
 
 abbrev pub decreases-regions : goal.decreases-regions

@@ -1,4 +1,4 @@
-use Rattle.std.proofs.Common.{◌≡◌, Bool, false, IsTrue, Option, ap, refl, subst, ◌∙◌, arith}
+use Rattle.std.proofs.Common.{rules, ◌≡◌, Bool, false, IsTrue, Option, ap, refl, subst, ◌∙◌, arith}
 use Rattle.std.specs.Option.{is_some}
 use Rattle.log_format.specs.declared.record.Record.{Record}
 use Rattle.log_reader.specs.Reading.{GivesNext}
@@ -28,8 +28,8 @@ records-preserved g c = record {
       let room = c.records.invariant.room in
       let fewer = c.in_ok-next.ensures.fewer (ap is_some c.in-Some.is) in
       c.pass.ensures.room c.next_record.new.reader.left (record { records = omega (arith, room.records, fewer); regions = room.regions; barriers = room.barriers });
-  same = c.in_ok-next.ensures.same ∙ c.records.invariant.same;
-  later = omega (arith, c.in_ok-next.ensures.later, c.records.invariant.later);
+  same = c.in_ok-next.ensures.reads.same ∙ c.records.invariant.same;
+  no_fault = search rules;
 }
 
 pub returns-clause-finds : goal.returns-clause-finds

@@ -12,7 +12,7 @@ invariant-records g l = record {
       → Passed c l.which l.reader l.place events);
   room : CanCount l.place l.reader.left;
   same : g.F.Folder.state l.folder ≡ g.F.Folder.state l.fn.folder;
-  later : g.F.Folder.read_faults l.fn.folder ≤ g.F.Folder.read_faults l.folder;
+  no_fault : g.F.Folder.read_faults l.folder ≡ g.F.Folder.read_faults l.fn.folder;
 }
 
 abbrev pub decreases-records : goal.decreases-records

@@ -14,7 +14,7 @@ invariant-records g l = record {
       → HoldPartners trace l.lines x l.met → TellsRecord (logs_of trace) x l.one → Scans c trace l.second l.reader l.place (IsNoHit trace l.lines x));
   room : CanCount l.place l.reader.left;
   same : g.F.Folder.state l.folder ≡ g.F.Folder.state l.fn.folder;
-  later : g.F.Folder.read_faults l.fn.folder ≤ g.F.Folder.read_faults l.folder;
+  no_fault : g.F.Folder.read_faults l.folder ≡ g.F.Folder.read_faults l.fn.folder;
 }
 
 abbrev pub decreases-records : goal.decreases-records

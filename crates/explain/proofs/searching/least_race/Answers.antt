@@ -1,4 +1,4 @@
-use Rattle.std.proofs.Common.{ℕ, inl, inr, ap, sym, subst, ◌∙◌, arith}
+use Rattle.std.proofs.Common.{rules, ℕ, inl, inr, ap, sym, subst, ◌∙◌, arith}
 use Rattle.std.proofs.lemmas.Bool.{cases_order}
 use Rattle.explain.specs.Least.{HasNoPartner}
 use Rattle.explain.specs.Witness.{IsInLog}
@@ -15,8 +15,8 @@ rows-preserved g c = record {
         | inr (inl less) ↦ c.rows.invariant.none x told trace run all p y less in_y
         | inr (inr above) ↦ absurd (omega (arith, above, before))
       ];
-  same = c.in_ok-found.ensures.same ∙ c.rows.invariant.same;
-  later = omega (arith, c.in_ok-found.ensures.later, c.rows.invariant.later);
+  same = c.in_ok-found.ensures.reads.same ∙ c.rows.invariant.same;
+  no_fault = search rules;
 }
 
 pub returns-then-is_some-clause-explains : goal.returns-then-is_some-clause-explains

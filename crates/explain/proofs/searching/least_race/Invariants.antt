@@ -10,5 +10,5 @@ abbrev pub invariant-rows : goal.invariant-rows
 invariant-rows g l = record {
   none : WhereTold (g.F.Folder.state l.fn.folder).content (λ c. (trace : Trace) → HoldsGoodRun c l.dir l.rows trace → HoldAccesses trace l.lines l.suspects → NoneBefore trace l.lines l.first);
   same : g.F.Folder.state l.folder ≡ g.F.Folder.state l.fn.folder;
-  later : g.F.Folder.read_faults l.fn.folder ≤ g.F.Folder.read_faults l.folder;
+  no_fault : g.F.Folder.read_faults l.folder ≡ g.F.Folder.read_faults l.fn.folder;
 }

@@ -1,4 +1,4 @@
-use Rattle.std.proofs.Common.{ℕ, Option, inl, inr, refl, ap, subst, ◌∙◌, arith}
+use Rattle.std.proofs.Common.{rules, ℕ, Option, inl, inr, refl, ap, subst, ◌∙◌, arith}
 use Rattle.std.proofs.lemmas.Bool.{cases_order}
 use Rattle.explain.specs.Least.{FindsHit}
 use Rattle.explain.specs.Witness.{IsInLog}
@@ -17,8 +17,8 @@ rows-preserved g c = record {
         | inr (inr above) ↦ absurd (omega (arith, above, below))
       ];
   after = let after = c.rows.invariant.after in omega (arith, after);
-  same = c.in_ok-hit.ensures.same ∙ c.rows.invariant.same;
-  later = omega (arith, c.in_ok-hit.ensures.later, c.rows.invariant.later);
+  same = c.in_ok-hit.ensures.reads.same ∙ c.rows.invariant.same;
+  no_fault = search rules;
 }
 
 pub returns-in-Some-clause-finds : goal.returns-in-Some-clause-finds

@@ -12,5 +12,5 @@ invariant-rows g l = record {
       → HoldPartners trace l.lines x l.met → TellsRecord (logs_of trace) x l.one → (other : ℕ) (y : Node) (byte : ℕ) → l.first < other → other < l.second → IsInLog trace other y → RacesOn (logs_of trace) l.lines x y byte → ⊥);
   after : l.first < l.second;
   same : g.F.Folder.state l.folder ≡ g.F.Folder.state l.fn.folder;
-  later : g.F.Folder.read_faults l.fn.folder ≤ g.F.Folder.read_faults l.folder;
+  no_fault : g.F.Folder.read_faults l.folder ≡ g.F.Folder.read_faults l.fn.folder;
 }

@@ -1,4 +1,4 @@
-use Rattle.std.proofs.Common.{Option, [], ◌∷◌, ◌++◌, ap, sym, subst, ◌∙◌, arith}
+use Rattle.std.proofs.Common.{rules, Option, [], ◌∷◌, ◌++◌, ap, sym, subst, ◌∙◌, arith}
 use Rattle.std.specs.Option.{is_some}
 use Rattle.log_format.specs.declared.record.Record.{Record}
 use Rattle.log_reader.specs.Reading.{GivesNext}
@@ -29,8 +29,8 @@ records-init g c = record {
       let log = log_of x c.args.dir.now c.args.rows.now trace run c.args.first c.index-rows-first.result row in
       scans_none log (HasNoPartner trace c.args.lines c.args.first) (c.in_ok-reader.ensures.stands x told log.task.records log.whole log.counted) c.start-place.ensures.after;
   room = c.start-place.ensures.room c.in_ok-reader.reader.left c.in_ok-reader.ensures.few;
-  same = c.in_ok-reader.ensures.same;
-  later = c.in_ok-reader.ensures.later;
+  same = c.in_ok-reader.ensures.reads.same;
+  no_fault = search rules;
 }
 
 pub records-preserved : goal.records-preserved
@@ -40,7 +40,7 @@ records-preserved g c = record {
       let now = ap (λ s. s.content) c.records.invariant.same ∙ told in
       let gives = subst (λ (o : Option Record). GivesNext x s.left o c.next_record.new.reader) c.in-Some.is (c.in_ok-next.ensures.gives x now s.left s.stands) in
       let tells = next_tells s c.in-Some.next c.next_record.new.reader c.found_at-one.result gives c.found_at-one.ensures in
-      let finds = c.in_ok-partner.ensures.finds x (ap (λ s. s.content) c.in_ok-next.ensures.same ∙ now) trace run all (next_node s) (next_in_log s) (number_of s) tells in
+      let finds = c.in_ok-partner.ensures.finds x (ap (λ s. s.content) c.in_ok-next.ensures.reads.same ∙ now) trace run all (next_node s) (next_in_log s) (number_of s) tells in
       scans_next s c.in-Some.next c.next_record.new.reader c.pass.new.self gives
       (subst (λ (o : Option Partner). FindsPartner trace c.args.lines c.args.first (next_node s) o) c.in_default-partner.is finds)
       (λ may. subst (λ (f : Found). IsPlaceAfter c.pass.new.self (s.given ++ f.event ∷ [])) c.found_at-one.ensures (c.pass.ensures.after s.given s.after (subst (λ (f : Found). MayFollow c.records.place.held f.event) (sym c.found_at-one.ensures) may)));
@@ -48,8 +48,8 @@ records-preserved g c = record {
       let room = c.records.invariant.room in
       let fewer = c.in_ok-next.ensures.fewer (ap is_some c.in-Some.is) in
       c.pass.ensures.room c.next_record.new.reader.left (record { records = omega (arith, room.records, fewer); regions = room.regions; barriers = room.barriers });
-  same = c.in_ok-partner.ensures.same ∙ (c.in_ok-next.ensures.same ∙ c.records.invariant.same);
-  later = omega (arith, c.in_ok-partner.ensures.later, c.in_ok-next.ensures.later, c.records.invariant.later);
+  same = c.in_ok-partner.ensures.reads.same ∙ (c.in_ok-next.ensures.reads.same ∙ c.records.invariant.same);
+  no_fault = search rules;
 }
 
 pub returns-in-Some-partner-clause-finds : goal.returns-in-Some-partner-clause-finds
@@ -58,7 +58,7 @@ returns-in-Some-partner-clause-finds g c = λ x told trace run all.
     let now = ap (λ s. s.content) c.records.invariant.same ∙ told in
     let gives = subst (λ (o : Option Record). GivesNext x s.left o c.next_record.new.reader) c.in-Some.is (c.in_ok-next.ensures.gives x now s.left s.stands) in
     let tells = next_tells s c.in-Some.next c.next_record.new.reader c.found_at-one.result gives c.found_at-one.ensures in
-    let finds = c.in_ok-partner.ensures.finds x (ap (λ s. s.content) c.in_ok-next.ensures.same ∙ now) trace run all (next_node s) (next_in_log s) (number_of s) tells in
+    let finds = c.in_ok-partner.ensures.finds x (ap (λ s. s.content) c.in_ok-next.ensures.reads.same ∙ now) trace run all (next_node s) (next_in_log s) (number_of s) tells in
     race_here c.args.lines s c.race_pair.result c.in-Some-partner.partner c.race_pair.ensures.first_row c.race_pair.ensures.first c.race_pair.ensures.partner
     (subst (λ (o : Option Partner). FindsPartner trace c.args.lines c.args.first (next_node s) o) c.in-Some-partner.is finds)
 

@@ -14,7 +14,7 @@ invariant-records g l = record {
       → Scans c trace l.first l.reader l.place (HasNoPartner trace l.lines l.first));
   room : CanCount l.place l.reader.left;
   same : g.F.Folder.state l.folder ≡ g.F.Folder.state l.fn.folder;
-  later : g.F.Folder.read_faults l.fn.folder ≤ g.F.Folder.read_faults l.folder;
+  no_fault : g.F.Folder.read_faults l.folder ≡ g.F.Folder.read_faults l.fn.folder;
 }
 
 abbrev pub decreases-records : goal.decreases-records

@@ -11,7 +11,7 @@ use Rattle.folder_commands.proofs.explaining.explain_lines.Goals as goal
 pub returns-in-Ok-Some-clause-answers : goal.returns-in-Ok-Some-clause-answers
 returns-in-Ok-Some-clause-answers g c = λ content told.
     let holds = c.in-Ok-Some.ensures.walks.holds content told in
-    c.print_race.ensures.answers content (ap (λ s. s.content) c.in-Ok-Some.ensures.same ∙ told) holds.0 c.args.low c.args.high holds.1
+    c.print_race.ensures.answers content (ap (λ s. s.content) c.in-Ok-Some.ensures.reads.same ∙ told) holds.0 c.args.low c.args.high holds.1
     (c.in-Ok-Some.ensures.walks.well_formed content told) (subst (λ (o : Option RacePair). FindsLeast holds.0 (c.args.low, c.args.high) o) c.in-Ok-Some.field-0-is (c.in-Ok-Some.ensures.explained content told holds.0 holds.1))
 
 pub returns-in-Ok-None-clause-answers : goal.returns-in-Ok-None-clause-answers

@@ -7,7 +7,7 @@ use Rattle.folder_commands.proofs.replaying.replay_file.Goals as goal
 
 pub returns-in-Ok-clause-answers : goal.returns-in-Ok-clause-answers
 returns-in-Ok-clause-answers g c = λ content told.
-    Tries-weaker _ _ _ _ _ (λ status text due. compared (program_of c.in-Ok.kernel) (c.in-Ok.ensures.kernel content told) due) (c.compare.ensures.answers content (ap (λ s. s.content) c.in-Ok.ensures.same ∙ told))
+    Tries-weaker _ _ _ _ _ (λ status text due. compared (program_of c.in-Ok.kernel) (c.in-Ok.ensures.kernel content told) due) (c.compare.ensures.answers content (ap (λ s. s.content) c.in-Ok.ensures.reads.same ∙ told))
 
 pub returns-in-Err-clause-answers : goal.returns-in-Err-clause-answers
 returns-in-Err-clause-answers g c = λ content told.

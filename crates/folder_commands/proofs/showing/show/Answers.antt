@@ -12,7 +12,7 @@ returns-in-Ok-clause-answers g c = λ content told.
     let trace = c.in-Ok.ensures.all.0 in
     let all = c.in-Ok.ensures.all.1 in
     let holds = all.holds content told in
-    let now = ap (λ s. s.content) c.in-Ok.ensures.same ∙ told in
+    let now = ap (λ s. s.content) c.in-Ok.ensures.reads.same ∙ told in
     let rows = all.completes.rows_are ∙ sym c.rows.ensures in
     Answers-of _ (one_listing content.held c.args.dir.now) _ _ _
     (answered_of ShowsRecords content.held c.args.dir.now trace (all.well_formed content told) holds _ _ _

@@ -20,12 +20,12 @@ returns-in_err-task-clause-strays g c =
     rw (p.1, p.2) (λ content told log whole counted ahead fits program arrays.
     restarted program (team_of c.args.team.now) c.args.lane c.new-place.result.lane c.args.slots.items c.in_ok-begun.begun.locals.slots.items log (standing c.task.new.self) (Err c.in_err-task.field-0.0)
     (ap (λ (s : Site). s.lane) c.new-place.ensures) c.in_ok-begun.ensures.slots
-    (c.in_err-task.ensures.compares log (subst (λ (t : FolderState). IsAt t log [] log (standing c.in_ok-begun.begun)) (sym c.begin.ensures.same) (c.in_ok-begun.ensures.begun content told log whole counted ahead fits))
+    (c.in_err-task.ensures.compares log (subst (λ (t : FolderState). IsAt t log [] log (standing c.in_ok-begun.begun)) (sym c.begin.ensures.reads.same) (c.in_ok-begun.ensures.begun content told log whole counted ahead fits))
     c.in_ok-begun.ensures.forks program (arrays ∙ sym (ap (λ (s : Site). s.arrays) c.new-place.ensures)) (sym (ap (λ (s : Site). s.span) c.new-place.ensures))))
 
 pub returns-clause-followed : goal.returns-clause-followed
 returns-clause-followed g c = λ content told log whole counted ahead fits program arrays.
     restarted program (team_of c.args.team.now) c.args.lane c.new-place.result.lane c.args.slots.items c.in_ok-begun.begun.locals.slots.items log (standing c.task.new.self) (Ok tt)
     (ap (λ (s : Site). s.lane) c.new-place.ensures) c.in_ok-begun.ensures.slots
-    (c.in_ok-task.ensures.compares log (subst (λ (t : FolderState). IsAt t log [] log (standing c.in_ok-begun.begun)) (sym c.begin.ensures.same) (c.in_ok-begun.ensures.begun content told log whole counted ahead fits))
+    (c.in_ok-task.ensures.compares log (subst (λ (t : FolderState). IsAt t log [] log (standing c.in_ok-begun.begun)) (sym c.begin.ensures.reads.same) (c.in_ok-begun.ensures.begun content told log whole counted ahead fits))
     c.in_ok-begun.ensures.forks program (arrays ∙ sym (ap (λ (s : Site). s.arrays) c.new-place.ensures)) (sym (ap (λ (s : Site). s.span) c.new-place.ensures)))

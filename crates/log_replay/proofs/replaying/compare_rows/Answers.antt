@@ -1,4 +1,4 @@
-use Rattle.std.proofs.Common.{◌≡◌, refl, ap, sym, ◌∙◌, subst, ℕ, ◌<◌, List, length, get_or, Option, Some, None, arith}
+use Rattle.std.proofs.Common.{rules, ◌≡◌, refl, ap, sym, ◌∙◌, subst, ℕ, ◌<◌, List, length, get_or, Option, Some, None, arith}
 use Rattle.std.specs.Prelude.{slice_get}
 use Rattle.std.specs.Global.{Vec}
 use Rattle.std.proofs.lemmas.List.{length-map}
@@ -21,7 +21,7 @@ rows-init g c = record {
       subst (λ (k : List (Vec Forked)). Compared (program_of c.args.kernel.now) tasks (forks_kept k) 0) (sym c.new-kept.ensures.items)
       (compared_none (program_of c.args.kernel.now) tasks rules);
   same = refl;
-  later = omega arith;
+  no_fault = search rules;
 }
 
 -- the task of a row
@@ -41,8 +41,8 @@ rows-preserved g c = record {
       (λ logs keeps whole counted ahead fits.
       subst (λ (o : Option ℕ). ComparesTask program logs c.row-item.result.path old new o) c.in_default.is
       (c.in_ok-number.ensures.compares x (ap (λ s. s.content) c.rows.invariant.same ∙ told) logs keeps whole counted ahead fits)));
-  same = c.in_ok-number.ensures.keeps.same ∙ c.rows.invariant.same;
-  later = omega (arith, c.in_ok-number.ensures.keeps.later, c.rows.invariant.later);
+  same = c.in_ok-number.ensures.reads.same ∙ c.rows.invariant.same;
+  no_fault = search rules;
 }
 
 pub returns-in-Some-clause-compares : goal.returns-in-Some-clause-compares

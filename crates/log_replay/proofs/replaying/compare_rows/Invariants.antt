@@ -14,5 +14,5 @@ invariant-rows g l = record {
   compared : WhereTold (g.F.Folder.state l.initial.folder).content (λ c. (tasks : Trace) → rows_of tasks ≡ l.fn.rows → HoldsLogs FORMAT c.held l.dir tasks → KeepsRules FORMAT tasks
       → Compared (program_of l.kernel) tasks (forks_kept l.kept.items) l.row-index);
   same : g.F.Folder.state l.folder ≡ g.F.Folder.state l.initial.folder;
-  later : g.F.Folder.read_faults l.initial.folder ≤ g.F.Folder.read_faults l.folder;
+  no_fault : g.F.Folder.read_faults l.folder ≡ g.F.Folder.read_faults l.initial.folder;
 }

@@ -10,6 +10,6 @@ returns-clause-compares g c =
       tasks = all.0;
       holds = all.1.holds;
       well_formed = all.1.well_formed;
-      replayed = λ x told. compares x (ap (λ s. s.content) c.in_ok-sweep.ensures.same ∙ told) all.0 (all.1.completes.rows_are ∙ sym c.rows.ensures) (all.1.holds x told).logs all.1.keeps;
+      replayed = λ x told. compares x (ap (λ s. s.content) c.in_ok-sweep.ensures.reads.same ∙ told) all.0 (all.1.completes.rows_are ∙ sym c.rows.ensures) (all.1.holds x told).logs all.1.keeps;
     })
     c.compare_rows.ensures.compares

@@ -41,7 +41,7 @@ chunks-chunks-init g t c =
       stride = search rules;
       fewer = omega arith;
       same = refl;
-      later = omega arith;
+      no_fault = search rules;
     }
 
 pub chunks-returns-in_err-repeat-clause-follows : goal.chunks-returns-in_err-repeat-clause-follows
@@ -72,8 +72,8 @@ chunks-chunks-preserved g t c =
           (retold (g.F.Folder.state c.args.folder.now) (g.F.Folder.state c.chunks.folder) (turns c.min-count.result c.chunks.first (turn_from c.args.place.now (code_of c.args.body.now.stmts.items) c.args.slot (to_z w64 (of_z w64 c.args.from)))) (standing c.chunks.self) (standing c.repeat.new.self) (Ok tt) c.chunks.invariant.same c.in_ok-repeat.ensures.follows)));
       stride = c.chunks.invariant.stride;
       fewer = omega (arith, c.in_ok-repeat.ensures.fewer, c.chunks.invariant.fewer);
-      same = c.in_ok-repeat.ensures.keeps.same ∙ c.chunks.invariant.same;
-      later = omega (arith, c.in_ok-repeat.ensures.keeps.later, c.chunks.invariant.later);
+      same = c.in_ok-repeat.ensures.reads.same ∙ c.chunks.invariant.same;
+      no_fault = search rules;
     }
 
 pub chunks-returns-clause-follows : goal.chunks-returns-clause-follows
@@ -96,16 +96,16 @@ critical-returns-in_err-statements-clause-follows g t c =
     let is : c.event.result ≡ event kind.Lock c.args.line c.args.mutex 0 = search rules in
     rw (p.1, p.2)
     (section_stops (g.F.Folder.state c.args.folder.now) c.args.place.now c.args.mutex c.args.line c.args.end (code_of c.args.body.now.stmts.items) (standing c.args.self.now) (standing c.put.new.self) (subst (λ (x : Record). Follows (g.F.Folder.state c.args.folder.now) (put x) (standing c.args.self.now) (standing c.put.new.self) (Ok tt)) is c.in_ok-put.ensures.follows) (standing c.statements.new.self) c.in_err-statements.field-0.0
-    (retold (g.F.Folder.state c.args.folder.now) (g.F.Folder.state c.put.new.folder) (run c.args.place.now (code_of c.args.body.now.stmts.items)) (standing c.put.new.self) (standing c.statements.new.self) (Err c.in_err-statements.field-0.0) c.put.ensures.keeps.same c.in_err-statements.ensures.follows))
+    (retold (g.F.Folder.state c.args.folder.now) (g.F.Folder.state c.put.new.folder) (run c.args.place.now (code_of c.args.body.now.stmts.items)) (standing c.put.new.self) (standing c.statements.new.self) (Err c.in_err-statements.field-0.0) c.put.ensures.reads.same c.in_err-statements.ensures.follows))
 
 pub critical-returns-clause-follows : goal.critical-returns-clause-follows
 critical-returns-clause-follows g t c =
     let is : c.event.result ≡ event kind.Lock c.args.line c.args.mutex 0 = search rules in
     let is2 : c.event-2.result ≡ event kind.Unlock c.args.end c.args.mutex 0 = search rules in
     section_goes (g.F.Folder.state c.args.folder.now) c.args.place.now c.args.mutex c.args.line c.args.end (code_of c.args.body.now.stmts.items) (standing c.args.self.now) (standing c.put.new.self) (subst (λ (x : Record). Follows (g.F.Folder.state c.args.folder.now) (put x) (standing c.args.self.now) (standing c.put.new.self) (Ok tt)) is c.in_ok-put.ensures.follows) (standing c.statements.new.self) (standing c.put-2.new.self) c.put-2.result
-    (retold (g.F.Folder.state c.args.folder.now) (g.F.Folder.state c.put.new.folder) (run c.args.place.now (code_of c.args.body.now.stmts.items)) (standing c.put.new.self) (standing c.statements.new.self) (Ok tt) c.put.ensures.keeps.same c.in_ok-statements.ensures.follows)
+    (retold (g.F.Folder.state c.args.folder.now) (g.F.Folder.state c.put.new.folder) (run c.args.place.now (code_of c.args.body.now.stmts.items)) (standing c.put.new.self) (standing c.statements.new.self) (Ok tt) c.put.ensures.reads.same c.in_ok-statements.ensures.follows)
     (subst (λ (x : Record). Follows (g.F.Folder.state c.args.folder.now) (put x) (standing c.statements.new.self) (standing c.put-2.new.self) c.put-2.result) is2
-    (retold (g.F.Folder.state c.args.folder.now) (g.F.Folder.state c.statements.new.folder) (put c.event-2.result) (standing c.statements.new.self) (standing c.put-2.new.self) c.put-2.result (c.statements.ensures.keeps.same ∙ c.put.ensures.keeps.same) c.put-2.ensures.follows))
+    (retold (g.F.Folder.state c.args.folder.now) (g.F.Folder.state c.statements.new.folder) (put c.event-2.result) (standing c.statements.new.self) (standing c.put-2.new.self) c.put-2.result (c.statements.ensures.reads.same ∙ c.put.ensures.reads.same) c.put-2.ensures.follows))
 
 pub drawn_chunk-returns-in_err-number-clause-follows : goal.drawn_chunk-returns-in_err-number-clause-follows
 drawn_chunk-returns-in_err-number-clause-follows g t c =
@@ -141,7 +141,7 @@ drawn_chunk-returns-in_err-repeat-clause-follows g t c =
     (chunk_stops (g.F.Folder.state c.args.folder.now) c.args.place.now (code_of c.args.body.now.stmts.items) c.args.slot c.args.from c.args.line c.args.total c.args.chunk c.in_ok-number.number (standing c.args.self.now) (standing c.draw.new.self) drew less (standing c.repeat.new.self) c.in_err-repeat.field-0.0
     (subst (λ (n : ℕ). Follows (g.F.Folder.state c.args.folder.now) (turns n (c.in_ok-number.number * c.args.chunk) (turn_from c.args.place.now (code_of c.args.body.now.stmts.items) c.args.slot c.args.from)) (standing c.draw.new.self) (standing c.repeat.new.self) (Err c.in_err-repeat.field-0.0)) least
     (subst (λ (z : ℤ). Follows (g.F.Folder.state c.args.folder.now) (turns c.min-count.result (c.in_ok-number.number * c.args.chunk) (turn_from c.args.place.now (code_of c.args.body.now.stmts.items) c.args.slot z)) (standing c.draw.new.self) (standing c.repeat.new.self) (Err c.in_err-repeat.field-0.0)) (to_z-of_z w64 c.args.from c.ranges.from)
-    (retold (g.F.Folder.state c.args.folder.now) (g.F.Folder.state c.draw.new.folder) (turns c.min-count.result (c.in_ok-number.number * c.args.chunk) (turn_from c.args.place.now (code_of c.args.body.now.stmts.items) c.args.slot (to_z w64 (of_z w64 c.args.from)))) (standing c.draw.new.self) (standing c.repeat.new.self) (Err c.in_err-repeat.field-0.0) c.draw.ensures.keeps.same c.in_err-repeat.ensures.follows))))
+    (retold (g.F.Folder.state c.args.folder.now) (g.F.Folder.state c.draw.new.folder) (turns c.min-count.result (c.in_ok-number.number * c.args.chunk) (turn_from c.args.place.now (code_of c.args.body.now.stmts.items) c.args.slot (to_z w64 (of_z w64 c.args.from)))) (standing c.draw.new.self) (standing c.repeat.new.self) (Err c.in_err-repeat.field-0.0) c.draw.ensures.reads.same c.in_err-repeat.ensures.follows))))
 
 pub drawn_chunk-returns-clause-follows : goal.drawn_chunk-returns-clause-follows
 drawn_chunk-returns-clause-follows g t c =
@@ -152,7 +152,7 @@ drawn_chunk-returns-clause-follows g t c =
     chunk_ends (g.F.Folder.state c.args.folder.now) c.args.place.now (code_of c.args.body.now.stmts.items) c.args.slot c.args.from c.args.line c.args.total c.args.chunk c.in_ok-number.number (standing c.args.self.now) (standing c.draw.new.self) drew less (standing c.repeat.new.self)
     (subst (λ (n : ℕ). Follows (g.F.Folder.state c.args.folder.now) (turns n (c.in_ok-number.number * c.args.chunk) (turn_from c.args.place.now (code_of c.args.body.now.stmts.items) c.args.slot c.args.from)) (standing c.draw.new.self) (standing c.repeat.new.self) (Ok tt)) least
     (subst (λ (z : ℤ). Follows (g.F.Folder.state c.args.folder.now) (turns c.min-count.result (c.in_ok-number.number * c.args.chunk) (turn_from c.args.place.now (code_of c.args.body.now.stmts.items) c.args.slot z)) (standing c.draw.new.self) (standing c.repeat.new.self) (Ok tt)) (to_z-of_z w64 c.args.from c.ranges.from)
-    (retold (g.F.Folder.state c.args.folder.now) (g.F.Folder.state c.draw.new.folder) (turns c.min-count.result (c.in_ok-number.number * c.args.chunk) (turn_from c.args.place.now (code_of c.args.body.now.stmts.items) c.args.slot (to_z w64 (of_z w64 c.args.from)))) (standing c.draw.new.self) (standing c.repeat.new.self) (Ok tt) c.draw.ensures.keeps.same c.in_ok-repeat.ensures.follows)))
+    (retold (g.F.Folder.state c.args.folder.now) (g.F.Folder.state c.draw.new.folder) (turns c.min-count.result (c.in_ok-number.number * c.args.chunk) (turn_from c.args.place.now (code_of c.args.body.now.stmts.items) c.args.slot (to_z w64 (of_z w64 c.args.from)))) (standing c.draw.new.self) (standing c.repeat.new.self) (Ok tt) c.draw.ensures.reads.same c.in_ok-repeat.ensures.follows)))
 
 pub drawn_chunks-returns-in_err-drawn_chunk-clause-follows : goal.drawn_chunks-returns-in_err-drawn_chunk-clause-follows
 drawn_chunks-returns-in_err-drawn_chunk-clause-follows g t c =
@@ -179,8 +179,8 @@ drawn_chunks-draws-preserved g t c =
           (subst (λ (b : Bool). Follows (g.F.Folder.state c.args.folder.now) (draw_once c.args.line (chunk_count c.args.chunk c.args.total) (λ q. each (chunk_iterations c.args.chunk c.args.total q) (turn_from c.args.place.now (code_of c.args.body.now.stmts.items) c.args.slot (to_z w64 (of_z w64 c.args.from))))) (standing c.draws.self) (standing c.drawn_chunk.new.self) (Ok b)) c.if-not-branch.false
           (retold (g.F.Folder.state c.args.folder.now) (g.F.Folder.state c.draws.folder) (draw_once c.args.line (chunk_count c.args.chunk c.args.total) (λ q. each (chunk_iterations c.args.chunk c.args.total q) (turn_from c.args.place.now (code_of c.args.body.now.stmts.items) c.args.slot (to_z w64 (of_z w64 c.args.from))))) (standing c.draws.self) (standing c.drawn_chunk.new.self) (Ok c.in_ok-drawn_chunk.field-0) c.draws.invariant.same c.in_ok-drawn_chunk.ensures.follows));
       fewer = omega (arith, c.in_ok-drawn_chunk.ensures.fewer, c.draws.invariant.fewer);
-      same = c.in_ok-drawn_chunk.ensures.keeps.same ∙ c.draws.invariant.same;
-      later = omega (arith, c.in_ok-drawn_chunk.ensures.keeps.later, c.draws.invariant.later);
+      same = c.in_ok-drawn_chunk.ensures.reads.same ∙ c.draws.invariant.same;
+      no_fault = search rules;
     }
 
 pub looped-returns-in_err-first-clause-follows : goal.looped-returns-in_err-first-clause-follows
@@ -196,7 +196,7 @@ looped-returns-in_err-last-clause-follows g t c =
     rw (p.1, p.2)
     (follows_same (g.F.Folder.state c.args.folder.now) _ (run c.args.place.now (tree.Loop c.args.slot (term_of c.args.from.now) (term_of c.args.to.now) (code_of c.args.body.now.stmts.items) tree.Done)) (standing c.args.self.now) (standing c.value-2.new.self) (Err c.in_err-last.field-0.0) (loop_is c.args.place.now c.args.slot (term_of c.args.from.now) (term_of c.args.to.now) (code_of c.args.body.now.stmts.items))
     (to_stops (g.F.Folder.state c.args.folder.now) c.args.place.now (term_of c.args.from.now) (term_of c.args.to.now) (turns_of c.args.place.now c.args.slot (code_of c.args.body.now.stmts.items)) (turns_of_grow c.args.place.now c.args.slot (code_of c.args.body.now.stmts.items)) (standing c.args.self.now) c.in_ok-first.first (standing c.value.new.self) c.in_ok-first.ensures.follows (standing c.value-2.new.self) c.in_err-last.field-0.0
-    (retold (g.F.Folder.state c.args.folder.now) (g.F.Folder.state c.value.new.folder) (value c.args.place.now (term_of c.args.to.now)) (standing c.value.new.self) (standing c.value-2.new.self) (Err c.in_err-last.field-0.0) c.value.ensures.keeps.same c.in_err-last.ensures.follows)))
+    (retold (g.F.Folder.state c.args.folder.now) (g.F.Folder.state c.value.new.folder) (value c.args.place.now (term_of c.args.to.now)) (standing c.value.new.self) (standing c.value-2.new.self) (Err c.in_err-last.field-0.0) c.value.ensures.reads.same c.in_err-last.ensures.follows)))
 
 pub looped-returns-clause-follows : goal.looped-returns-clause-follows
 looped-returns-clause-follows g t c =
@@ -204,11 +204,11 @@ looped-returns-clause-follows g t c =
     let last_is = to_z-of_z w64 c.in_ok-last.last (search rules) in
     follows_same (g.F.Folder.state c.args.folder.now) _ (run c.args.place.now (tree.Loop c.args.slot (term_of c.args.from.now) (term_of c.args.to.now) (code_of c.args.body.now.stmts.items) tree.Done)) (standing c.args.self.now) (standing c.repeat.new.self) c.repeat.result (loop_is c.args.place.now c.args.slot (term_of c.args.from.now) (term_of c.args.to.now) (code_of c.args.body.now.stmts.items))
     (bounds_go (g.F.Folder.state c.args.folder.now) c.args.place.now (term_of c.args.from.now) (term_of c.args.to.now) (turns_of c.args.place.now c.args.slot (code_of c.args.body.now.stmts.items)) (turns_of_grow c.args.place.now c.args.slot (code_of c.args.body.now.stmts.items)) (standing c.args.self.now) c.in_ok-first.first (standing c.value.new.self) c.in_ok-first.ensures.follows c.in_ok-last.last (standing c.value-2.new.self) (standing c.repeat.new.self) c.repeat.result
-    (retold (g.F.Folder.state c.args.folder.now) (g.F.Folder.state c.value.new.folder) (value c.args.place.now (term_of c.args.to.now)) (standing c.value.new.self) (standing c.value-2.new.self) (Ok c.in_ok-last.last) c.value.ensures.keeps.same c.in_ok-last.ensures.follows)
+    (retold (g.F.Folder.state c.args.folder.now) (g.F.Folder.state c.value.new.folder) (value c.args.place.now (term_of c.args.to.now)) (standing c.value.new.self) (standing c.value-2.new.self) (Ok c.in_ok-last.last) c.value.ensures.reads.same c.in_ok-last.ensures.follows)
     (subst (λ (n : ℕ). Follows (g.F.Folder.state c.args.folder.now) (turns n 0 (turn_from c.args.place.now (code_of c.args.body.now.stmts.items) c.args.slot c.in_ok-first.first)) (standing c.value-2.new.self) (standing c.repeat.new.self) c.repeat.result)
     (c.total_of-total.ensures.count ∙ ap (λ (z : ℤ). total_of z (to_z w64 (of_z w64 c.in_ok-last.last))) first_is ∙ ap (λ (z : ℤ). total_of c.in_ok-first.first z) last_is)
     (subst (λ (z : ℤ). Follows (g.F.Folder.state c.args.folder.now) (turns c.total_of-total.result 0 (turn_from c.args.place.now (code_of c.args.body.now.stmts.items) c.args.slot z)) (standing c.value-2.new.self) (standing c.repeat.new.self) c.repeat.result) first_is
-    (retold (g.F.Folder.state c.args.folder.now) (g.F.Folder.state c.value-2.new.folder) (turns c.total_of-total.result 0 (turn_from c.args.place.now (code_of c.args.body.now.stmts.items) c.args.slot (to_z w64 (of_z w64 c.in_ok-first.first)))) (standing c.value-2.new.self) (standing c.repeat.new.self) c.repeat.result (c.value-2.ensures.keeps.same ∙ c.value.ensures.keeps.same) c.repeat.ensures.follows))))
+    (retold (g.F.Folder.state c.args.folder.now) (g.F.Folder.state c.value-2.new.folder) (turns c.total_of-total.result 0 (turn_from c.args.place.now (code_of c.args.body.now.stmts.items) c.args.slot (to_z w64 (of_z w64 c.in_ok-first.first)))) (standing c.value-2.new.self) (standing c.repeat.new.self) c.repeat.result (c.value-2.ensures.reads.same ∙ c.value.ensures.reads.same) c.repeat.ensures.follows))))
 
 pub worksharing-returns-in_err-first-clause-follows : goal.worksharing-returns-in_err-first-clause-follows
 worksharing-returns-in_err-first-clause-follows g t c =
@@ -221,18 +221,18 @@ worksharing-returns-in_err-last-clause-follows g t c =
     let p = err_from_is_err_and c.from_residual-in_err-last.result c.from_residual-in_err-last.ensures.1 in
     rw (p.1, p.2)
     (to_stops (g.F.Folder.state c.args.folder.now) c.args.place.now (term_of c.args.from.now) (term_of c.args.to.now) (share_of c.args.place.now c.args.slot (code_of c.args.body.now.stmts.items) c.args.schedule c.args.line) (share_of_grows c.args.place.now c.args.slot (code_of c.args.body.now.stmts.items) c.args.schedule c.args.line) (standing c.args.self.now) c.in_ok-first.first (standing c.value.new.self) c.in_ok-first.ensures.follows (standing c.value-2.new.self) c.in_err-last.field-0.0
-    (retold (g.F.Folder.state c.args.folder.now) (g.F.Folder.state c.value.new.folder) (value c.args.place.now (term_of c.args.to.now)) (standing c.value.new.self) (standing c.value-2.new.self) (Err c.in_err-last.field-0.0) c.value.ensures.keeps.same c.in_err-last.ensures.follows))
+    (retold (g.F.Folder.state c.args.folder.now) (g.F.Folder.state c.value.new.folder) (value c.args.place.now (term_of c.args.to.now)) (standing c.value.new.self) (standing c.value-2.new.self) (Err c.in_err-last.field-0.0) c.value.ensures.reads.same c.in_err-last.ensures.follows))
 
 pub worksharing-returns-clause-follows : goal.worksharing-returns-clause-follows
 worksharing-returns-clause-follows g t c =
     let first_is = to_z-of_z w64 c.in_ok-first.first (search rules) in
     let last_is = to_z-of_z w64 c.in_ok-last.last (search rules) in
     bounds_go (g.F.Folder.state c.args.folder.now) c.args.place.now (term_of c.args.from.now) (term_of c.args.to.now) (share_of c.args.place.now c.args.slot (code_of c.args.body.now.stmts.items) c.args.schedule c.args.line) (share_of_grows c.args.place.now c.args.slot (code_of c.args.body.now.stmts.items) c.args.schedule c.args.line) (standing c.args.self.now) c.in_ok-first.first (standing c.value.new.self) c.in_ok-first.ensures.follows c.in_ok-last.last (standing c.value-2.new.self) (standing c.share.new.self) c.share.result
-    (retold (g.F.Folder.state c.args.folder.now) (g.F.Folder.state c.value.new.folder) (value c.args.place.now (term_of c.args.to.now)) (standing c.value.new.self) (standing c.value-2.new.self) (Ok c.in_ok-last.last) c.value.ensures.keeps.same c.in_ok-last.ensures.follows)
+    (retold (g.F.Folder.state c.args.folder.now) (g.F.Folder.state c.value.new.folder) (value c.args.place.now (term_of c.args.to.now)) (standing c.value.new.self) (standing c.value-2.new.self) (Ok c.in_ok-last.last) c.value.ensures.reads.same c.in_ok-last.ensures.follows)
     (subst (λ (n : ℕ). Follows (g.F.Folder.state c.args.folder.now) (shared c.args.schedule c.args.place.now c.args.line n (turn_from c.args.place.now (code_of c.args.body.now.stmts.items) c.args.slot c.in_ok-first.first)) (standing c.value-2.new.self) (standing c.share.new.self) c.share.result)
     (c.total_of-total.ensures.count ∙ ap (λ (z : ℤ). total_of z (to_z w64 (of_z w64 c.in_ok-last.last))) first_is ∙ ap (λ (z : ℤ). total_of c.in_ok-first.first z) last_is)
     (subst (λ (z : ℤ). Follows (g.F.Folder.state c.args.folder.now) (shared c.args.schedule c.args.place.now c.args.line c.total_of-total.result (turn_from c.args.place.now (code_of c.args.body.now.stmts.items) c.args.slot z)) (standing c.value-2.new.self) (standing c.share.new.self) c.share.result) first_is
-    (retold (g.F.Folder.state c.args.folder.now) (g.F.Folder.state c.value-2.new.folder) (shared c.args.schedule c.args.place.now c.args.line c.total_of-total.result (turn_from c.args.place.now (code_of c.args.body.now.stmts.items) c.args.slot (to_z w64 (of_z w64 c.in_ok-first.first)))) (standing c.value-2.new.self) (standing c.share.new.self) c.share.result (c.value-2.ensures.keeps.same ∙ c.value.ensures.keeps.same) c.share.ensures.follows)))
+    (retold (g.F.Folder.state c.args.folder.now) (g.F.Folder.state c.value-2.new.folder) (shared c.args.schedule c.args.place.now c.args.line c.total_of-total.result (turn_from c.args.place.now (code_of c.args.body.now.stmts.items) c.args.slot (to_z w64 (of_z w64 c.in_ok-first.first)))) (standing c.value-2.new.self) (standing c.share.new.self) c.share.result (c.value-2.ensures.reads.same ∙ c.value.ensures.reads.same) c.share.ensures.follows)))
 
 pub repeat-returns-in_err-statements-clause-follows : goal.repeat-returns-in_err-statements-clause-follows
 repeat-returns-in_err-statements-clause-follows g t c =
@@ -262,8 +262,8 @@ repeat-loop-i-preserved g t c =
           (subst (λ (x : Standing). Follows (g.F.Folder.state c.args.folder.now) (run c.args.place.now (code_of c.args.body.now.stmts.items)) x (standing c.statements.new.self) (Ok tt)) set_is
           (retold (g.F.Folder.state c.args.folder.now) (g.F.Folder.state c.loop-i.folder) (run c.args.place.now (code_of c.args.body.now.stmts.items)) (standing c.set.new.self) (standing c.statements.new.self) (Ok tt) c.loop-i.invariant.same c.in_ok-statements.ensures.follows))));
       fewer = subst (λ (n : ℕ). c.statements.new.self.reader.left ≤ n) refl (omega (arith, c.in_ok-statements.ensures.fewer, ap (λ (r : Reading). r.left) c.set.ensures.reader, c.loop-i.invariant.fewer));
-      same = c.in_ok-statements.ensures.keeps.same ∙ c.loop-i.invariant.same;
-      later = omega (arith, c.in_ok-statements.ensures.keeps.later, c.loop-i.invariant.later);
+      same = c.in_ok-statements.ensures.reads.same ∙ c.loop-i.invariant.same;
+      no_fault = search rules;
     }
 
 pub repeat-returns-clause-follows : goal.repeat-returns-clause-follows
@@ -338,14 +338,14 @@ statement-returns-then-chosen-eq0-clause-follows g t c =
     subst (λ (x : Code). Follows (g.F.Folder.state c.args.folder.now) (run c.args.place.now x) (standing c.args.self.now) (standing c.statements.new.self) c.statements.result) (sym (ap (λ (s : Stmt). stmt_code s Done) c.in-If.is ∙ stmt_code-If c.in-If.test c.in-If.yes c.in-If.no Done))
     (else_goes (g.F.Folder.state c.args.folder.now) c.args.place.now (term_of c.in-If.test) (code_of c.in-If.yes.stmts.items) (code_of c.in-If.no.stmts.items) (standing c.args.self.now) (standing c.value.new.self) c.in_ok-chosen-in-If.chosen (standing c.statements.new.self) c.statements.result c.in_ok-chosen-in-If.ensures.follows
     (sym back ∙ ap (λ (n : ℕ). to_z w64 n) c.if-chosen-eq0.true)
-    (retold (g.F.Folder.state c.args.folder.now) (g.F.Folder.state c.value.new.folder) (run c.args.place.now (code_of c.in-If.no.stmts.items)) (standing c.value.new.self) (standing c.statements.new.self) c.statements.result c.value.ensures.keeps.same c.statements.ensures.follows))
+    (retold (g.F.Folder.state c.args.folder.now) (g.F.Folder.state c.value.new.folder) (run c.args.place.now (code_of c.in-If.no.stmts.items)) (standing c.value.new.self) (standing c.statements.new.self) c.statements.result c.value.ensures.reads.same c.statements.ensures.follows))
 
 pub statement-returns-else-chosen-eq0-clause-follows : goal.statement-returns-else-chosen-eq0-clause-follows
 statement-returns-else-chosen-eq0-clause-follows g t c =
     subst (λ (x : Code). Follows (g.F.Folder.state c.args.folder.now) (run c.args.place.now x) (standing c.args.self.now) (standing c.statements-else-chosen-eq0.new.self) c.statements-else-chosen-eq0.result) (sym (ap (λ (s : Stmt). stmt_code s Done) c.in-If.is ∙ stmt_code-If c.in-If.test c.in-If.yes c.in-If.no Done))
     (then_goes (g.F.Folder.state c.args.folder.now) c.args.place.now (term_of c.in-If.test) (code_of c.in-If.yes.stmts.items) (code_of c.in-If.no.stmts.items) (standing c.args.self.now) (standing c.value.new.self) c.in_ok-chosen-in-If.chosen (standing c.statements-else-chosen-eq0.new.self) c.statements-else-chosen-eq0.result c.in_ok-chosen-in-If.ensures.follows
     (λ is. c.if-chosen-eq0.false (ap (λ (z : ℤ). of_z w64 z) is))
-    (retold (g.F.Folder.state c.args.folder.now) (g.F.Folder.state c.value.new.folder) (run c.args.place.now (code_of c.in-If.yes.stmts.items)) (standing c.value.new.self) (standing c.statements-else-chosen-eq0.new.self) c.statements-else-chosen-eq0.result c.value.ensures.keeps.same c.statements-else-chosen-eq0.ensures.follows))
+    (retold (g.F.Folder.state c.args.folder.now) (g.F.Folder.state c.value.new.folder) (run c.args.place.now (code_of c.in-If.yes.stmts.items)) (standing c.value.new.self) (standing c.statements-else-chosen-eq0.new.self) c.statements-else-chosen-eq0.result c.value.ensures.reads.same c.statements-else-chosen-eq0.ensures.follows))
 
 pub statement-returns-in-Set-clause-follows : goal.statement-returns-in-Set-clause-follows
 statement-returns-in-Set-clause-follows g t c =
@@ -391,7 +391,7 @@ pub statement-returns-in_ok-worksharing-in-For-clause-follows : goal.statement-r
 statement-returns-in_ok-worksharing-in-For-clause-follows g t c =
     subst (λ (x : Code). Follows (g.F.Folder.state c.args.folder.now) (run c.args.place.now x) (standing c.args.self.now) (standing c.end_loop.new.self) c.end_loop.result) (sym (ap (λ (s : Stmt). stmt_code s Done) c.in-For.is ∙ stmt_code-For c.in-For.slot c.in-For.from c.in-For.to c.in-For.schedule c.in-For.nowait c.in-For.line c.in-For.end c.in-For.body Done))
     (for_goes (g.F.Folder.state c.args.folder.now) c.args.place.now c.in-For.slot (term_of c.in-For.from) (term_of c.in-For.to) c.in-For.schedule c.in-For.nowait c.in-For.line c.in-For.end (code_of c.in-For.body.stmts.items) (standing c.args.self.now) (standing c.worksharing.new.self) (standing c.end_loop.new.self) c.end_loop.result c.in_ok-worksharing-in-For.ensures.follows
-    (retold (g.F.Folder.state c.args.folder.now) (g.F.Folder.state c.worksharing.new.folder) (loop_end c.in-For.nowait c.in-For.end) (standing c.worksharing.new.self) (standing c.end_loop.new.self) c.end_loop.result c.worksharing.ensures.keeps.same c.end_loop.ensures.follows))
+    (retold (g.F.Folder.state c.args.folder.now) (g.F.Folder.state c.worksharing.new.folder) (loop_end c.in-For.nowait c.in-For.end) (standing c.worksharing.new.self) (standing c.end_loop.new.self) c.end_loop.result c.worksharing.ensures.reads.same c.end_loop.ensures.follows))
 
 pub statement-returns-in-Barrier-clause-follows : goal.statement-returns-in-Barrier-clause-follows
 statement-returns-in-Barrier-clause-follows g t c =
@@ -407,7 +407,7 @@ statements-loop-stmt-init g t c =
       follows = follows_done (g.F.Folder.state c.args.folder.now) c.args.place.now (standing c.args.self.now);
       fewer = omega arith;
       same = refl;
-      later = omega arith;
+      no_fault = search rules;
     }
 
 pub statements-statement-requires-clause-bounded : goal.statements-statement-requires-clause-bounded
@@ -439,8 +439,8 @@ statements-loop-stmt-preserved g t c =
           (statements_next (g.F.Folder.state c.args.folder.now) c.args.place.now (take c.loop-stmt.stmt-index c.args.body.now.stmts.items) c.stmt-item.result (standing c.args.self.now) (standing c.loop-stmt.self) (standing c.statement.new.self) c.loop-stmt.invariant.follows
           (retold (g.F.Folder.state c.args.folder.now) (g.F.Folder.state c.loop-stmt.folder) (run c.args.place.now (stmt_code c.stmt-item.result Done)) (standing c.loop-stmt.self) (standing c.statement.new.self) (Ok tt) c.loop-stmt.invariant.same c.in_ok-statement.ensures.follows));
       fewer = omega (arith, c.in_ok-statement.ensures.fewer, c.loop-stmt.invariant.fewer);
-      same = c.in_ok-statement.ensures.keeps.same ∙ c.loop-stmt.invariant.same;
-      later = omega (arith, c.in_ok-statement.ensures.keeps.later, c.loop-stmt.invariant.later);
+      same = c.in_ok-statement.ensures.reads.same ∙ c.loop-stmt.invariant.same;
+      no_fault = search rules;
     }
 
 pub statements-returns-clause-follows : goal.statements-returns-clause-follows

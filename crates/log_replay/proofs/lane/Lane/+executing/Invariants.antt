@@ -14,7 +14,7 @@ invariant-chunks-chunks g l = record {
   stride : l.stride ≡ l.fn.chunk * l.place.span;
   fewer : l.self.reader.left ≤ l.fn.self.reader.left;
   same : g.F.Folder.state l.folder ≡ g.F.Folder.state l.fn.folder;
-  later : g.F.Folder.read_faults l.fn.folder ≤ g.F.Folder.read_faults l.folder;
+  no_fault : g.F.Folder.read_faults l.folder ≡ g.F.Folder.read_faults l.fn.folder;
 }
 
 abbrev pub decreases-chunks-chunks : goal.decreases-chunks-chunks
@@ -25,7 +25,7 @@ invariant-drawn_chunks-draws g l = record {
   on : FollowsOn (g.F.Folder.state l.fn.folder) (draw_all l.fn.line (chunk_count l.fn.chunk l.fn.total) (λ q. each (chunk_iterations l.fn.chunk l.fn.total q) (turn_from l.place (code_of l.body.stmts.items) l.fn.slot l.fn.from))) (standing l.fn.self) (standing l.self);
   fewer : l.self.reader.left ≤ l.fn.self.reader.left;
   same : g.F.Folder.state l.folder ≡ g.F.Folder.state l.fn.folder;
-  later : g.F.Folder.read_faults l.fn.folder ≤ g.F.Folder.read_faults l.folder;
+  no_fault : g.F.Folder.read_faults l.folder ≡ g.F.Folder.read_faults l.fn.folder;
 }
 
 abbrev pub decreases-drawn_chunks-draws : goal.decreases-drawn_chunks-draws
@@ -36,7 +36,7 @@ invariant-repeat-loop-i g l = record {
   follows : Follows (g.F.Folder.state l.fn.folder) (turns l.i l.fn.first (turn_from l.place (code_of l.body.stmts.items) l.slot l.from)) (standing l.fn.self) (standing l.self) (Ok tt);
   fewer : l.self.reader.left ≤ l.fn.self.reader.left;
   same : g.F.Folder.state l.folder ≡ g.F.Folder.state l.fn.folder;
-  later : g.F.Folder.read_faults l.fn.folder ≤ g.F.Folder.read_faults l.folder;
+  no_fault : g.F.Folder.read_faults l.folder ≡ g.F.Folder.read_faults l.fn.folder;
 }
 
 abbrev pub invariant-statements-loop-stmt : goal.invariant-statements-loop-stmt
@@ -45,5 +45,5 @@ invariant-statements-loop-stmt g l = record {
   follows : Follows (g.F.Folder.state l.fn.folder) (run l.place (code_of (take l.stmt-index l.body.stmts.items))) (standing l.fn.self) (standing l.self) (Ok tt);
   fewer : l.self.reader.left ≤ l.fn.self.reader.left;
   same : g.F.Folder.state l.folder ≡ g.F.Folder.state l.fn.folder;
-  later : g.F.Folder.read_faults l.fn.folder ≤ g.F.Folder.read_faults l.folder;
+  no_fault : g.F.Folder.read_faults l.folder ≡ g.F.Folder.read_faults l.fn.folder;
 }

@@ -46,7 +46,7 @@ returns-in_err-second-in-Binary-clause-follows g t c =
     let p = err_from_is_err_and c.from_residual-in_err-second-in-Binary.result c.from_residual-in_err-second-in-Binary.ensures.1 in
     rw (p.1, p.2)
     (subst (λ (e : Expr). Follows (g.F.Folder.state c.args.folder.now) (value c.args.place.now (term_of e)) (standing c.args.self.now) (standing c.value-in-Binary-2.new.self) (Err c.in_err-second-in-Binary.field-0.0)) (sym c.in-Binary.is)
-    (right_stops (g.F.Folder.state c.args.folder.now) c.args.place.now (standing c.args.self.now) c.in-Binary.op c.in-Binary.line (term_of c.in-Binary.left.value) (term_of c.in-Binary.right.value) (g.F.Folder.state c.value-in-Binary.new.folder) c.value-in-Binary.ensures.keeps.same c.in_ok-first-in-Binary.first (standing c.value-in-Binary.new.self)
+    (right_stops (g.F.Folder.state c.args.folder.now) c.args.place.now (standing c.args.self.now) c.in-Binary.op c.in-Binary.line (term_of c.in-Binary.left.value) (term_of c.in-Binary.right.value) (g.F.Folder.state c.value-in-Binary.new.folder) c.value-in-Binary.ensures.reads.same c.in_ok-first-in-Binary.first (standing c.value-in-Binary.new.self)
     (subst (λ (x : Expr). Follows (g.F.Folder.state c.args.folder.now) (value c.args.place.now (term_of x)) (standing c.args.self.now) (standing c.value-in-Binary.new.self) (Ok c.in_ok-first-in-Binary.first)) c.deref-in-Binary.ensures c.in_ok-first-in-Binary.ensures.follows)
     (standing c.value-in-Binary-2.new.self) c.in_err-second-in-Binary.field-0.0
     (subst (λ (x : Expr). Follows (g.F.Folder.state c.value-in-Binary.new.folder) (value c.args.place.now (term_of x)) (standing c.value-in-Binary.new.self) (standing c.value-in-Binary-2.new.self) (Err c.in_err-second-in-Binary.field-0.0)) c.deref-in-Binary-2.ensures c.in_err-second-in-Binary.ensures.follows)))
@@ -82,7 +82,7 @@ returns-in-Span-clause-follows g t c =
 pub returns-in_ok-at-in-Load-clause-follows : goal.returns-in_ok-at-in-Load-clause-follows
 returns-in_ok-at-in-Load-clause-follows g t c =
     subst (λ (e : Expr). Follows (g.F.Folder.state c.args.folder.now) (value c.args.place.now (term_of e)) (standing c.args.self.now) (standing c.load.new.self) c.load.result) (sym c.in-Load.is)
-    (load_goes (g.F.Folder.state c.args.folder.now) c.args.place.now (standing c.args.self.now) c.in-Load.array (term_of c.in-Load.index.value) c.in-Load.line c.in-Load.site (g.F.Folder.state c.value.new.folder) c.value.ensures.keeps.same (standing c.value.new.self) (standing c.load.new.self) c.in_ok-at-in-Load.at c.load.result
+    (load_goes (g.F.Folder.state c.args.folder.now) c.args.place.now (standing c.args.self.now) c.in-Load.array (term_of c.in-Load.index.value) c.in-Load.line c.in-Load.site (g.F.Folder.state c.value.new.folder) c.value.ensures.reads.same (standing c.value.new.self) (standing c.load.new.self) c.in_ok-at-in-Load.at c.load.result
     (subst (λ (x : Expr). Follows (g.F.Folder.state c.args.folder.now) (value c.args.place.now (term_of x)) (standing c.args.self.now) (standing c.value.new.self) (Ok c.in_ok-at-in-Load.at)) c.deref.ensures c.in_ok-at-in-Load.ensures.follows)
     (subst (λ (i : ℤ). Follows (g.F.Folder.state c.value.new.folder) (loaded (element_at c.args.place.now.arrays c.in-Load.array i) c.in-Load.line c.in-Load.site) (standing c.value.new.self) (standing c.load.new.self) c.load.result)
     (to_z-of_z w64 c.in_ok-at-in-Load.at (search rules)) c.load.ensures.follows))
@@ -101,7 +101,7 @@ returns-in_ok-second-in-Binary-clause-follows g t c =
     let x = to_z-of_z w64 c.in_ok-first-in-Binary.first (search rules) in
     let y = to_z-of_z w64 c.in_ok-second-in-Binary.second (search rules) in
     subst (λ (e : Expr). Follows (g.F.Folder.state c.args.folder.now) (value c.args.place.now (term_of e)) (standing c.args.self.now) (standing c.value-in-Binary-2.new.self) c.operate.result) (sym c.in-Binary.is)
-    (binary_goes (g.F.Folder.state c.args.folder.now) c.args.place.now (standing c.args.self.now) c.in-Binary.op c.in-Binary.line (term_of c.in-Binary.left.value) (term_of c.in-Binary.right.value) (g.F.Folder.state c.value-in-Binary.new.folder) c.value-in-Binary.ensures.keeps.same c.in_ok-first-in-Binary.first (standing c.value-in-Binary.new.self)
+    (binary_goes (g.F.Folder.state c.args.folder.now) c.args.place.now (standing c.args.self.now) c.in-Binary.op c.in-Binary.line (term_of c.in-Binary.left.value) (term_of c.in-Binary.right.value) (g.F.Folder.state c.value-in-Binary.new.folder) c.value-in-Binary.ensures.reads.same c.in_ok-first-in-Binary.first (standing c.value-in-Binary.new.self)
     (subst (λ (x : Expr). Follows (g.F.Folder.state c.args.folder.now) (value c.args.place.now (term_of x)) (standing c.args.self.now) (standing c.value-in-Binary.new.self) (Ok c.in_ok-first-in-Binary.first)) c.deref-in-Binary.ensures c.in_ok-first-in-Binary.ensures.follows)
     c.in_ok-second-in-Binary.second (standing c.value-in-Binary-2.new.self) c.operate.result
     (subst (λ (x : Expr). Follows (g.F.Folder.state c.value-in-Binary.new.folder) (value c.args.place.now (term_of x)) (standing c.value-in-Binary.new.self) (standing c.value-in-Binary-2.new.self) (Ok c.in_ok-second-in-Binary.second)) c.deref-in-Binary-2.ensures c.in_ok-second-in-Binary.ensures.follows)

@@ -23,10 +23,10 @@ returns-in-Some-clause-ends g c = λ log done rest at.
     let took = c.in_ok-next.ensures.takes log done rest at in
     let is : c.in_ok-next.next ≡ event kind.End c.args.line 0 0 = c.is_same.ensures.0 (search (rules, c.if-not-is_same.false)) ∙ c.event-due.ensures in
     rw c.stray.ensures (early_end (g.F.Folder.state c.args.folder.now) log done rest (standing c.args.self.now) at c.in_ok-next.next (standing c.next.new.self) (c.in_ok-next.ensures.takes log done rest at) c.args.line is c.next-2.new.self c.in-Some.field-0 _
-    (subst (λ (o : Option Record). GivesNext at.content took.others o c.next-2.new.self) c.in-Some.is (c.in_ok-next-2.ensures.gives at.content (ap (λ s. s.content) c.next.ensures.keeps.same ∙ at.is_told) took.others (took.stands at.content at.is_told))) refl)
+    (subst (λ (o : Option Record). GivesNext at.content took.others o c.next-2.new.self) c.in-Some.is (c.in_ok-next-2.ensures.gives at.content (ap (λ s. s.content) c.next.ensures.reads.same ∙ at.is_told) took.others (took.stands at.content at.is_told))) refl)
 
 pub returns-in-None-clause-ends : goal.returns-in-None-clause-ends
 returns-in-None-clause-ends g c = λ log done rest at.
     let took = c.in_ok-next.ensures.takes log done rest at in
     let is : c.in_ok-next.next ≡ event kind.End c.args.line 0 0 = c.is_same.ensures.0 (search (rules, c.if-not-is_same.false)) ∙ c.event-due.ensures in
-    (last_end (g.F.Folder.state c.args.folder.now) log done rest (standing c.args.self.now) at c.in_ok-next.next (standing c.next.new.self) (c.in_ok-next.ensures.takes log done rest at) c.args.line is c.next-2.new.self (subst (λ (o : Option Record). GivesNext at.content took.others o c.next-2.new.self) c.in-None.is (c.in_ok-next-2.ensures.gives at.content (ap (λ s. s.content) c.next.ensures.keeps.same ∙ at.is_told) took.others (took.stands at.content at.is_told))), took.forks)
+    (last_end (g.F.Folder.state c.args.folder.now) log done rest (standing c.args.self.now) at c.in_ok-next.next (standing c.next.new.self) (c.in_ok-next.ensures.takes log done rest at) c.args.line is c.next-2.new.self (subst (λ (o : Option Record). GivesNext at.content took.others o c.next-2.new.self) c.in-None.is (c.in_ok-next-2.ensures.gives at.content (ap (λ s. s.content) c.next.ensures.reads.same ∙ at.is_told) took.others (took.stands at.content at.is_told))), took.forks)

@@ -18,4 +18,4 @@ pub returns-clause-compares : goal.returns-clause-compares
 returns-clause-compares g c = λ log at forks program arrays span.
     let reached = c.in_ok-statements.ensures.follows log [] log at in
     task_ends (g.F.Folder.state c.args.folder.now) log program (record { team = team_of c.args.team.now; lane = c.args.place.now.lane; slots = c.args.self.now.locals.slots.items }) c.args.place.now (site_of_start program (team_of c.args.team.now) c.args.place.now.lane c.args.self.now.locals.slots.items c.args.place.now arrays span refl) (standing c.args.self.now) at refl (ap (λ (l : List Forked). map fork_of l) forks) (standing c.statements.new.self) (standing c.finish.new.self) reached c.finish.result
-    (c.finish.ensures.ends log reached.done reached.rest (subst (λ (t : FolderState). IsAt t log reached.done reached.rest (standing c.statements.new.self)) (sym c.statements.ensures.keeps.same) reached.at))
+    (c.finish.ensures.ends log reached.done reached.rest (subst (λ (t : FolderState). IsAt t log reached.done reached.rest (standing c.statements.new.self)) (sym c.statements.ensures.reads.same) reached.at))
