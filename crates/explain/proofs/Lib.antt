@@ -5,6 +5,7 @@ pub mod Kept
 pub mod Logs
 pub mod Looking
 pub mod OnePassed
+pub mod OneWitness
 pub mod OnLines
 pub mod Own
 pub mod Pairs

@@ -13,6 +13,7 @@ mod conflict;
 mod explaining;
 mod finding;
 mod keeping;
+mod laws;
 mod parting;
 mod passing;
 mod searching;
@@ -22,3 +23,4 @@ mod suspecting;
 
 pub use confirming::confirm;
 pub use explaining::{RacePair, explain};
+pub use laws::a_race_is_told_in_one_way;
