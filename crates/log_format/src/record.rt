@@ -2,7 +2,7 @@
 pub const RECORD_LIMIT: u32 = 4_194_304;
 
 /// What a task did.
-#[derive(Clone, Copy, Debug, PartialEq, Eq, Hash)]
+#[derive(Clone, Copy, PartialEq, Eq)]
 pub enum Kind {
     /// An access that reads.
     Read,
@@ -25,7 +25,7 @@ pub enum Kind {
 }
 
 /// One step of a task, as its log tells it.
-#[derive(Clone, Copy, Debug, PartialEq, Eq, Hash)]
+#[derive(Clone, Copy, PartialEq)]
 pub struct Record {
     pub kind: Kind,
     /// The bytes of an access, 1, 2, 4 or 8; else 0.
@@ -41,7 +41,7 @@ pub struct Record {
 }
 
 /// Why bytes spell no record: the first test that they fail, in this order.
-#[derive(Clone, Copy, Debug, PartialEq, Eq, Hash)]
+#[derive(Clone, Copy, Debug, PartialEq)]
 pub enum Why {
     /// The first byte names no kind.
     Kind,
