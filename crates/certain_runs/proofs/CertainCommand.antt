@@ -21,7 +21,7 @@ use Rattle.run_command.specs.declared.outcome.Outcome.{Outcome}
 use Rattle.run_command.specs.declared.outcome.Outcome.TheVariants as outcome
 use Rattle.run_command.specs.Outcomes.{due_status, due_text}
 use Rattle.run_command.specs.Run.{told_log, EndedRun, CameOut, RunDue}
-use Rattle.run_texts.specs.Texts.{run_text}
+use Rattle.command_answer.specs.RunTexts.{run_text}
 use Rattle.certain_runs.specs.CertainRun.{IsCertainRun}
 use Rattle.certain_runs.specs.Leaving.{LeavesRun}
 use Rattle.certain_runs.proofs.EndedRuns.{tasks_are, words_are}

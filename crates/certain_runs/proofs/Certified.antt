@@ -6,7 +6,7 @@ use Rattle.kernel_file.specs.Holding.{HoldsKernel}
 use Rattle.execution_model.specs.Elements.{layout_of}
 use Rattle.command_answer.specs.declared.status.TheConstants.{DONE}
 use Rattle.run_command.specs.Run.{RunDue}
-use Rattle.run_texts.specs.Texts.{run_text}
+use Rattle.command_answer.specs.RunTexts.{run_text}
 use Rattle.certain_runs.specs.CertainRun.{IsCertainRun}
 use Rattle.serial_laws.proofs.Certainty.{is_listed}
 use Rattle.certify.specs.Verdicts.{HasCertainRun, Tells}

@@ -10,7 +10,7 @@ use Rattle.race_model.specs.Trace.{TaskLog, Trace}
 use Rattle.kernel_syntax.specs.Program.{Program}
 use Rattle.kernel_file.specs.Holding.{HoldsKernel}
 use Rattle.run_command.specs.Run.{told_log}
-use Rattle.run_texts.specs.Texts.{run_text}
+use Rattle.command_answer.specs.RunTexts.{run_text}
 use Rattle.certify.specs.Verdicts.{RunsTo}
 
 -- The run's logs, each from a buffer of this size, and their index are there, and nothing else changed; and the text tells how many tasks

@@ -6,7 +6,7 @@ use Rattle.kernel_syntax.specs.declared.syntax.Array.{Array}
 use Rattle.serial_team.specs.declared.stop.StopWhy.{StopWhy}
 use Rattle.serial_team.specs.declared.stop.StopWhy.TheVariants.{DivZero, Index, LogFull, Tasks}
 use Rattle.race_report.specs.Report.{report_text}
-use Rattle.run_texts.specs.Texts.{run_text, stop_line}
+use Rattle.command_answer.specs.RunTexts.{run_text, stop_line}
 use Rattle.certify.specs.declared.verdict.Verdict.{Verdict}
 use Rattle.certify.specs.declared.verdict.Verdict.TheVariants as verdict
 

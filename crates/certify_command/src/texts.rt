@@ -2,8 +2,8 @@
 ghost use Rattle.std.specs.Prelude.{◌≡◌, IfOk, string_bytes};
 ghost use Rattle.certify_command.specs.Texts.{certain_text, construct_text, long_text, segments_text, stop_name, uncertain_stop_text};
 
+use command_answer::{run_text, stop_line};
 use kernel_syntax::Array;
-use run_texts::ran;
 use serial_team::StopWhy;
 use std::alloc::Global;
 use sw_base::{Memory, Path};
@@ -42,7 +42,7 @@ pub fn segments(alloc: Global, path: &Path, number: u32) -> Result<String, Memor
 pub fn stopped(alloc: Global, path: &Path, line: u32, why: StopWhy) -> Result<String, Memory>
     ensures { IfOk result (λ text. string_bytes text ≡ uncertain_stop_text path.now line why) }
 {
-    let told = run_texts::stopped(alloc, path, line, stop_name(why))?;
+    let told = stop_line(alloc, path, line, stop_name(why))?;
     Ok(format!(in alloc; "uncertain: {told}")?)
 }
 
@@ -55,6 +55,6 @@ pub fn certain(
 ) -> Result<String, Memory>
     ensures { IfOk result (λ text. string_bytes text ≡ certain_text tasks records arrays.now words.now) }
 {
-    let run = ran(alloc, tasks as usize, records, arrays, words)?;
+    let run = run_text(alloc, tasks as usize, records, arrays, words)?;
     Ok(format!(in alloc; "certain\n{run}")?)
 }

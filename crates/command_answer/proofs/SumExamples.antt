@@ -2,7 +2,7 @@
 use Rattle.std.proofs.Common.{◌≡◌, refl, [], ◌∷◌, ◌-◌, ◌^◌, pos, negsuc}
 use Rattle.std.specs.Prelude.{codes}
 use Rattle.kernel_syntax.specs.declared.syntax.Array.{Array}
-use Rattle.run_texts.specs.Texts.{sum_of, values_of}
+use Rattle.command_answer.specs.RunTexts.{sum_of, values_of}
 
 -- an array of two elements after another of two
 abbrev second : Array

@@ -1,16 +1,14 @@
 //! The texts of a kernel's run: where and why it stopped, or its counts and the sum of each array.
-#![tactic(auto)]
-
 ghost use Rattle.std.specs.Prelude.{◌≡◌, ◌^◌, ◌<◌, length, string_bytes, IfOk};
 ghost use Rattle.sw_base.specs.Names.{bare_log_name};
-ghost use Rattle.run_texts.specs.Texts.{count_lines, run_text, stop_line, sum_line, sum_of, values_of};
+ghost use Rattle.command_answer.specs.RunTexts.{count_lines, run_text, stop_line, sum_line, sum_of, values_of};
 
 use kernel_syntax::Array;
 use std::alloc::Global;
 use sw_base::{Memory, Path};
 
 /// Where and why a kernel stopped.
-pub fn stopped(alloc: Global, path: &Path, line: u32, why: &str) -> Result<String, Memory>
+pub fn stop_line(alloc: Global, path: &Path, line: u32, why: &str) -> Result<String, Memory>
     ensures { IfOk result (λ text. string_bytes text ≡ stop_line path.now line why.now) }
 {
     let name = path.bare_name(alloc)?;
@@ -54,7 +52,7 @@ fn count_lines(alloc: Global, tasks: usize, records: u64) -> Result<String, Memo
 }
 
 /// The counts of a run, and the sum of each array's values.
-pub fn ran(
+pub fn run_text(
     alloc: Global,
     tasks: usize,
     records: u64,

@@ -1,6 +1,9 @@
 pub mod FolderAnswers
 pub mod OneSummary
 pub mod OneAnswer
+pub mod OneExplanation
+pub mod OneFile
+pub mod OneReplay
 pub mod Listed
 pub mod Refusals
 pub mod Upgrades

@@ -90,7 +90,7 @@ refused_once format files dir s r t u a b =
     place_text_once format files dir b.place t u (subst (λ (p : BadPlace). IsPlaceText format files dir p t) (first_bad_once files dir a.place b.place a.first b.first) a.names) b.names
 
 -- where the answer for a run is one, the answer for a folder is
-due_once : (answer : Trace → ℕ → List ℕ → Type 0) → ((trace : Trace) (s r : ℕ) (t u : List ℕ) → answer trace s t → answer trace r u → t ≡ u)
+pub due_once : (answer : Trace → ℕ → List ℕ → Type 0) → ((trace : Trace) (s r : ℕ) (t u : List ℕ) → answer trace s t → answer trace r u → t ≡ u)
     → (files : Files) (dir : List ℕ) (s r : ℕ) (t u : List ℕ) → FolderDue answer files dir s t → FolderDue answer files dir r u → t ≡ u
 due_once answer once files dir s r t u (refused a) (refused b) = refused_once FORMAT files dir s r t u a b
 due_once answer once files dir s r t u (refused a) (answered trace good holds is) = absurd (good a.place a.first.bad)

@@ -8,6 +8,7 @@ mod checking;
 mod confirming;
 mod explaining;
 mod generating;
+mod laws;
 mod printing;
 mod refusing;
 mod replaying;
@@ -19,6 +20,9 @@ pub use checking::check;
 pub use confirming::confirm_records;
 pub use explaining::explain_lines;
 pub use generating::check_generated;
+pub use laws::{
+    a_folder_has_one_confirmation, a_folder_has_one_explanation, a_replay_has_one_answer,
+};
 pub use replaying::replay_file;
 pub use showing::show;
 pub use upgrading::upgrade_folder;

@@ -6,7 +6,7 @@ ghost use Rattle.kernel_model.specs.Changing.{kind_of, amount};
 use log_format::Kind;
 
 /// How a statement changes an element.
-#[derive(Clone, Copy, Debug)]
+#[derive(Clone, Copy)]
 pub enum Change {
     /// It stores the value.
     Store,

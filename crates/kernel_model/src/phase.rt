@@ -5,7 +5,7 @@ use kernel_syntax::Stmt;
 use std::marker::Model;
 
 /// What a lane does next in a phase.
-#[derive(Clone, Copy, Debug)]
+#[derive(Clone, Copy)]
 pub enum Item<'k> {
     /// A variable of an unrolled loop gets its value.
     Set { slot: u32, value: i64 },
@@ -18,7 +18,7 @@ pub enum Item<'k> {
 }
 
 /// What each lane of a team executes up to a barrier, or to the end. Contracts see its items.
-#[derive(Debug, Drop)]
+#[derive(Drop)]
 pub struct Phase<'k> {
     items: Vec<Item<'k>>,
 }

@@ -3,10 +3,11 @@ use Rattle.std.specs.Prelude.{◌≡◌, ◌<◌, ◌≤◌, ℕ, ◌++◌, List
 use Rattle.std.specs.Borrow.{Bor}
 use Rattle.kernel_syntax.specs.declared.syntax.Op.{Op}
 use Rattle.kernel_text.specs.declared.token.Sign.TheVariants as sign
+use Rattle.kernel_text.specs.declared.token.Word.TheVariants as word
 use Rattle.kernel_text.specs.declared.token.Lexeme.{Lexeme}
 use Rattle.kernel_text.specs.declared.token.Lexeme.TheVariants.{Mark}
 use Rattle.kernel_text.specs.declared.token.Token.{Token}
-use Rattle.kernel_text.specs.Grammar.{Tree, tree_tokens, Derives, depth, expr, sign_of, rank_of, mark, Stmts, NoMore, Let, Assign, Store, Update, If, IfElse, Loop, Parallel, For, Barrier, Critical, CriticalOf, stmts_tokens, StmtsDerive, AreShallow, Declaration}
+use Rattle.kernel_text.specs.Grammar.{Tree, tree_tokens, Derives, depth, expr, sign_of, rank_of, mark, named, reserved, ScheduleTree, schedule_tokens, nowait_tokens, Stmts, NoMore, Let, Assign, Store, Update, If, IfElse, Loop, Parallel, For, Barrier, Critical, CriticalOf, stmts_tokens, StmtsDerive, AreShallow, Declaration}
 use Rattle.kernel_parser.specs.declared.fault.ParseFault.{ParseFault}
 use Rattle.kernel_parser.specs.declared.fault.ParseFault.TheVariants as fault
 use Rattle.kernel_parser.specs.declared.lookahead.Lead.{Lead}
@@ -81,6 +82,14 @@ Reads (Err fault.Memory) IsDue = Unit {0}
 -- a statement was read, which is so before any rest, and these tokens are left
 abbrev pub IsRead : (Stmts → Stmts) → List Token → Statement → List Token → Type 0
 IsRead view after x left = ((rest : Stmts) → stmt_before x rest ≡ view rest) × (left ≡ after)
+
+-- behind `for`, a range, a schedule and a block are read as such a loop
+abbrev pub ReadsFor : ℕ → List Token → Result (Statement × Bor (List Token)) ParseFault → Type 0
+ReadsFor line tokens result =
+    (name_line : ℕ) (name : List ℕ) (in_line : ℕ) (from : Tree) (dots : ℕ) (to : Tree) (s : ScheduleTree) (nowait : Option ℕ) (opened : ℕ) (body : Stmts) (closed : ℕ)
+    (ts us vs after : List Token) → tokens ≡ named name_line name ∷ reserved in_line word.In ∷ ts → IsExpression ts from (mark dots sign.Dots ∷ us)
+    → IsExpression us to (schedule_tokens s ++ (nowait_tokens nowait ++ mark opened sign.OpenBrace ∷ vs)) → IsBlock (mark opened sign.OpenBrace ∷ vs) opened body closed after
+    → Reads result (λ x. IsRead (For line name_line name in_line from dots to s nowait opened body closed) after x.0 x.1.now)
 
 -- the first of the statements was read, and the others are left
 pub record IsFirst (levels : ℕ) (b : Stmts) (end : ℕ) (tail : List Token) (x : Statement) (left : List Token) : Type 0 where

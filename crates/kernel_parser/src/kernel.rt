@@ -17,7 +17,7 @@ use kernel_text::{Lexeme, Token, Word};
 use std::alloc::Global;
 
 /// What a token declares.
-#[derive(Clone, Copy, Debug)]
+#[derive(Clone, Copy)]
 pub enum Declares {
     Array,
     Mutex,

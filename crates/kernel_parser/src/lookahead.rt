@@ -14,7 +14,7 @@ use kernel_syntax::Name;
 use kernel_text::{Lexeme, Sign, Token, Word};
 
 /// Which statement it is.
-#[derive(Clone, Copy, Debug)]
+#[derive(Clone, Copy)]
 pub enum Lead {
     Let,
     Assign,

@@ -9,7 +9,7 @@ ghost use Rattle.kernel_text.specs.declared.token.Word.TheVariants as word;
 ghost use Rattle.kernel_text.specs.Grammar as grammar;
 ghost use Rattle.kernel_text.specs.Grammar.{Stmts, StmtsDerive, AreShallow, named, mark, reserved, number, schedule_tokens, nowait_tokens, update_sign};
 ghost use Rattle.kernel_parser.specs.Trees.{tree_of, schedule_tree, stmts_of};
-ghost use Rattle.kernel_parser.specs.Parsing.{IsExpression, IsBlock, IsRead, IsFirst, StartsWith, Reads, inside, lead_of_stmts};
+ghost use Rattle.kernel_parser.specs.Parsing.{IsExpression, IsBlock, IsRead, IsFirst, StartsWith, Reads, ReadsFor, inside, lead_of_stmts};
 
 use crate::expression::expression;
 use crate::fault::ParseFault;
@@ -263,7 +263,7 @@ fn parallel_stmt(
 #[cycle(statements)]
 #[tactic(auto, using(crate::proofs::Equations::before_for))]
 fn for_stmt(alloc: Global, line: u32, tokens: &[Token]) -> Result<(Statement, &[Token]), ParseFault>
-    ensures parsed { (name_line : ℕ) (name : List ℕ) (in_line : ℕ) (from : grammar.Tree) (dots : ℕ) (to : grammar.Tree) (s : grammar.ScheduleTree) (nowait : Option ℕ) (opened : ℕ) (body : Stmts) (closed : ℕ) (ts us vs after : List AToken) → tokens.now ≡ named name_line name ∷ reserved in_line word.In ∷ ts → IsExpression ts from (mark dots sign.Dots ∷ us) → IsExpression us to (schedule_tokens s ++ (nowait_tokens nowait ++ mark opened sign.OpenBrace ∷ vs)) → IsBlock (mark opened sign.OpenBrace ∷ vs) opened body closed after → Reads result (λ x. IsRead (grammar.For line name_line name in_line from dots to s nowait opened body closed) after x.0 x.1.now) }
+    ensures parsed { ReadsFor line tokens.now result }
     ensures shorter { IfOk result (λ x. length x.1.now ≤ length tokens.now) }
 {
     let (range, rest) = range(alloc, tokens)?;

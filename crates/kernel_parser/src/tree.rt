@@ -2,7 +2,6 @@
 use kernel_syntax::{Name, Op};
 
 /// An expression with the line of each of its tokens.
-#[derive(Debug)]
 pub enum Tree {
     Number {
         line: u32,
@@ -76,7 +75,7 @@ impl Drop for Tree {
 }
 
 /// NAME `in` expr `..` expr
-#[derive(Debug, Drop)]
+#[derive(Drop)]
 pub struct Range {
     pub name_line: u32,
     pub name: Name,
@@ -87,7 +86,7 @@ pub struct Range {
 }
 
 /// The schedule of a worksharing loop, if it is written.
-#[derive(Clone, Copy, Debug)]
+#[derive(Clone, Copy)]
 pub enum ScheduleTree {
     Unsaid,
     Static {
@@ -110,7 +109,7 @@ pub enum ScheduleTree {
 
 /// Statements between braces.
 #[cycle(statements)]
-#[derive(Debug, Drop)]
+#[derive(Drop)]
 pub struct Block {
     pub opened: u32,
     pub stmts: Vec<Statement>,
@@ -119,7 +118,7 @@ pub struct Block {
 
 /// A statement with the line of each of its tokens.
 #[cycle(statements)]
-#[derive(Debug, Drop)]
+#[derive(Drop)]
 pub enum Statement {
     Let {
         line: u32,
@@ -200,7 +199,7 @@ pub enum Statement {
 }
 
 /// A declaration with the line of each of its tokens.
-#[derive(Debug, Drop)]
+#[derive(Drop)]
 pub enum Declaration {
     Array {
         line: u32,
@@ -219,7 +218,7 @@ pub enum Declaration {
 }
 
 /// A kernel as it is written.
-#[derive(Debug, Drop)]
+#[derive(Drop)]
 pub struct KernelTree {
     pub declarations: Vec<Declaration>,
     /// The line of `main`.

@@ -6,10 +6,15 @@ use Rattle.kernel_text.specs.Tokens.{Refusal}
 use Rattle.kernel_reader.specs.Scope.{Names, variable_of, is_array, is_among}
 use Rattle.kernel_reader.specs.Rules.{fault_at, fault_if}
 use Rattle.kernel_reader.specs.declared.binding.Variable.{Variable}
+use Rattle.kernel_reader.specs.declared.place.State.{State}
 
 -- the innermost variable comes last
 abbrev pub names_of : List Array → List Variable → Names
 names_of arrays variables = record { arrays = arrays; scope = reverse variables }
+
+-- the names that are known in this state
+abbrev pub names_in : List Array → State → Names
+names_in arrays state = names_of arrays state.variables.items
 
 -- a name that is assigned to is a `let` variable's
 abbrev pub assigned_to : Names → ℕ → List ℕ → List Refusal

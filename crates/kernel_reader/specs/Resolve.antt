@@ -1,5 +1,5 @@
 -- The kernel of a parse tree: names become numbers of arrays, mutexes and slots, and accesses get their sites.
-use Rattle.std.specs.Prelude.{ℕ, ◌+◌, true, false, List, unwrap_or, option_map, is_some}
+use Rattle.std.specs.Prelude.{◌≡◌, ℕ, ◌+◌, true, false, List, unwrap_or, option_map, is_some}
 use Rattle.kernel_syntax.specs.declared.syntax.Schedule.{Schedule}
 use Rattle.kernel_syntax.specs.declared.syntax.Schedule.TheVariants as schedule
 use Rattle.kernel_syntax.specs.Layout.{laid}
@@ -64,17 +64,23 @@ schedule_of (StaticBy line number_line chunk) = schedule.Static (count_literal c
 schedule_of (Dynamic line) = schedule.Dynamic 1
 schedule_of (DynamicBy line number_line chunk) = schedule.Dynamic (count_literal chunk)
 
+-- a store or an update of an element by its array, its index and its value
+abbrev pub change : {X : Type 0} → (ℕ → Term → Term → X) → Names → ℕ → List ℕ → Tree → Tree → X
+change made n site name index value = made (array_at n name) (term n (site + 1) index) (term n (site + 1 + sites index) value)
+
+-- these are its array, its index and its value
+abbrev pub IsChange : Names → ℕ → List ℕ → Tree → Tree → ℕ → Term → Term → Type 0
+IsChange n site name index value array at amount = (array ≡ array_at n name) × (at ≡ term n (site + 1) index) × (amount ≡ term n (site + 1 + sites index) value)
+
 abbrev pub code : Place → ℕ → Stmts → Code
 code p site NoMore = kernel.Done
 code p site (Let line name_line name sign_line value rest) =
     kernel.Set p.slot (term p.names site value) (code (with_local p name true) (site + sites value) rest)
 code p site (Assign line name sign_line value rest) = kernel.Set (slot_of p.names name) (term p.names site value) (code p (site + sites value) rest)
 code p site (Store line name opened index closed sign_line value rest) =
-    kernel.Store (array_at p.names name) (term p.names (site + 1) index) (term p.names (site + 1 + sites index) value) line site
-    (code p (site + 1 + sites index + sites value) rest)
+    change (λ array at amount. kernel.Store array at amount line site (code p (site + 1 + sites index + sites value) rest)) p.names site name index value
 code p site (Update line name_line name opened index closed minus sign_line value rest) =
-    kernel.Update (array_at p.names name) (term p.names (site + 1) index) (term p.names (site + 1 + sites index) value) minus name_line site
-    (code p (site + 1 + sites index + sites value) rest)
+    change (λ array at amount. kernel.Update array at amount minus name_line site (code p (site + 1 + sites index + sites value) rest)) p.names site name index value
 code p site (If line test opened if_true closed rest) =
     let inside = site + sites test in
     kernel.If (term p.names site test) (code p inside if_true) kernel.Done (code (past p (slots if_true)) (inside + stmts_sites if_true) rest)

@@ -178,6 +178,10 @@ in_critical p mutex = record p { critical = Some mutex; criticals = p.criticals 
 abbrev pub in_region : Place → ℕ → Place
 in_region p span = record p { regions = p.regions + 1; spans = p.spans * span; divided = false; uneven = false }
 
+-- a store or an update of an element: its array, its index, its value
+abbrev pub change_faults : Names → ℕ → List ℕ → Tree → Tree → List Refusal
+change_faults n line name index value = array_faults n false line name ++ (tree_faults n false index ++ tree_faults n false value)
+
 -- inside an `if`, or a loop
 abbrev pub in_branch : Place → Bool → Place
 in_branch p uneven = record p { uneven = p.uneven || uneven }

@@ -17,7 +17,7 @@ use kernel_text::KernelWhy;
 use std::alloc::Global;
 
 /// A local variable in scope.
-#[derive(Debug, Drop)]
+#[derive(Drop)]
 pub struct Variable {
     pub name: Name,
     pub slot: u32,
@@ -129,7 +129,7 @@ fn binary(
 }
 
 /// An operator and the operand behind it.
-#[derive(Clone, Copy, Debug)]
+#[derive(Clone, Copy)]
 pub struct Behind<'a> {
     pub op: Op,
     pub line: u32,

@@ -125,7 +125,7 @@ fn mutex_at(
 }
 
 /// The arrays and mutexes of a kernel.
-#[derive(Debug, Drop)]
+#[derive(Drop)]
 pub struct Declared {
     pub arrays: Arrays,
     pub mutexes: Names,

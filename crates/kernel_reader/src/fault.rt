@@ -5,7 +5,7 @@ use kernel_text::KernelWhy;
 use std::alloc::{AllocError, AllocFailed};
 
 /// Why `read_kernel` answers none.
-#[derive(Clone, Copy, Debug, PartialEq, Eq)]
+#[derive(Clone, Copy, Debug)]
 pub enum ReadKernelFault {
     /// The first fault of the text; lines are numbered from 1.
     Refused { line: u32, why: KernelWhy },

@@ -25,7 +25,7 @@ pub struct Known<'a> {
 }
 
 /// The variables in scope, the innermost last, and the next slot and site.
-#[derive(Debug, Drop)]
+#[derive(Drop)]
 pub struct State {
     pub variables: Vec<Variable>,
     pub slot: u32,
@@ -33,7 +33,7 @@ pub struct State {
 }
 
 /// What is around a place.
-#[derive(Clone, Copy, Debug)]
+#[derive(Clone, Copy)]
 pub struct Section {
     /// How many regions.
     pub regions: u8,

@@ -10,10 +10,10 @@ ghost use Rattle.kernel_text.specs.Grammar as grammar;
 ghost use Rattle.kernel_text.specs.Grammar.{Stmts, NoMore};
 ghost use Rattle.kernel_parser.specs.Trees.{tree_of, schedule_tree, stmt_before, stmts_of};
 ghost use Rattle.kernel_reader.specs.Scope.{slots};
-ghost use Rattle.kernel_reader.specs.Resolve.{sites, stmts_sites, term, slot_of, array_at};
-ghost use Rattle.kernel_reader.specs.Rules.{tree_faults, array_faults, stmts_faults};
+ghost use Rattle.kernel_reader.specs.Resolve.{sites, stmts_sites, term, slot_of, change, IsChange};
+ghost use Rattle.kernel_reader.specs.Rules.{tree_faults, change_faults, stmts_faults};
 ghost use Rattle.kernel_reader.specs.Settled.{Settles};
-ghost use Rattle.kernel_reader.specs.Naming.{names_of, assigned_to, taken_faults};
+ghost use Rattle.kernel_reader.specs.Naming.{names_of, names_in, assigned_to, taken_faults};
 ghost use Rattle.kernel_reader.specs.Folding.{place_of, IsRead, IsFirstRead};
 
 use crate::binding::refused;
@@ -29,7 +29,7 @@ use kernel_text::KernelWhy;
 const TOO_HEAVY: u64 = 65_537;
 
 /// The statements of a block, resolved.
-#[derive(Debug, Drop)]
+#[derive(Drop)]
 pub struct Folded {
     pub body: Body,
     /// The weight, or 65,537 where it is more.
@@ -39,7 +39,7 @@ pub struct Folded {
 }
 
 /// A statement, resolved.
-#[derive(Debug, Drop)]
+#[derive(Drop)]
 pub struct Added {
     pub stmt: Stmt,
     pub weight: u64,
@@ -218,7 +218,8 @@ impl Known<'_> {
     ) -> Result<(u32, Expr, Expr), ReadKernelFault>
         requires few { length self.now.arrays.now ≤ 64 }
         requires room { state.old.site + 1 + sites (tree_of index.now) + sites (tree_of value.now) < 65536 }
-        ensures settled { Settles result (array_faults (names_of self.now.arrays.now state.old.variables.items) false line name.now ++ (tree_faults (names_of self.now.arrays.now state.old.variables.items) false (tree_of index.now) ++ tree_faults (names_of self.now.arrays.now state.old.variables.items) false (tree_of value.now))) (λ x. (x.0 ≡ array_at (names_of self.now.arrays.now state.old.variables.items) name.now) × (term_of x.1 ≡ term (names_of self.now.arrays.now state.old.variables.items) (state.old.site + 1) (tree_of index.now)) × (term_of x.2 ≡ term (names_of self.now.arrays.now state.old.variables.items) (state.old.site + 1 + sites (tree_of index.now)) (tree_of value.now))) }
+        ensures settled { Settles result (change_faults (names_in self.now.arrays.now state.old) line name.now (tree_of index.now) (tree_of value.now))
+            (λ x. IsChange (names_in self.now.arrays.now state.old) state.old.site name.now (tree_of index.now) (tree_of value.now) x.0 (term_of x.1) (term_of x.2)) }
         ensures site { OnOk result (state.new.site ≡ state.old.site + 1 + sites (tree_of index.now) + sites (tree_of value.now)) }
         ensures slot { state.new.slot ≡ state.old.slot }
         ensures variables { state.new.variables.items ≡ state.old.variables.items }
@@ -241,7 +242,8 @@ impl Known<'_> {
     ) -> Result<Stmt, ReadKernelFault>
         requires few { length self.now.arrays.now ≤ 64 }
         requires room { state.old.site + 1 + sites (tree_of index.now) + sites (tree_of value.now) < 65536 }
-        ensures settled { Settles result (array_faults (names_of self.now.arrays.now state.old.variables.items) false line name.now ++ (tree_faults (names_of self.now.arrays.now state.old.variables.items) false (tree_of index.now) ++ tree_faults (names_of self.now.arrays.now state.old.variables.items) false (tree_of value.now))) (λ s. (rest : Code) → stmt_code s rest ≡ kernel.Store (array_at (names_of self.now.arrays.now state.old.variables.items) name.now) (term (names_of self.now.arrays.now state.old.variables.items) (state.old.site + 1) (tree_of index.now)) (term (names_of self.now.arrays.now state.old.variables.items) (state.old.site + 1 + sites (tree_of index.now)) (tree_of value.now)) line state.old.site rest) }
+        ensures settled { Settles result (change_faults (names_in self.now.arrays.now state.old) line name.now (tree_of index.now) (tree_of value.now))
+            (λ s. (rest : Code) → stmt_code s rest ≡ change (λ array at amount. kernel.Store array at amount line state.old.site rest) (names_in self.now.arrays.now state.old) state.old.site name.now (tree_of index.now) (tree_of value.now)) }
         ensures site { OnOk result (state.new.site ≡ state.old.site + 1 + sites (tree_of index.now) + sites (tree_of value.now)) }
         ensures slot { state.new.slot ≡ state.old.slot }
         ensures variables { state.new.variables.items ≡ state.old.variables.items }
@@ -263,7 +265,8 @@ impl Known<'_> {
     ) -> Result<Stmt, ReadKernelFault>
         requires few { length self.now.arrays.now ≤ 64 }
         requires room { state.old.site + 1 + sites (tree_of index.now) + sites (tree_of value.now) < 65536 }
-        ensures settled { Settles result (array_faults (names_of self.now.arrays.now state.old.variables.items) false line name.now ++ (tree_faults (names_of self.now.arrays.now state.old.variables.items) false (tree_of index.now) ++ tree_faults (names_of self.now.arrays.now state.old.variables.items) false (tree_of value.now))) (λ s. (rest : Code) → stmt_code s rest ≡ kernel.Update (array_at (names_of self.now.arrays.now state.old.variables.items) name.now) (term (names_of self.now.arrays.now state.old.variables.items) (state.old.site + 1) (tree_of index.now)) (term (names_of self.now.arrays.now state.old.variables.items) (state.old.site + 1 + sites (tree_of index.now)) (tree_of value.now)) minus line state.old.site rest) }
+        ensures settled { Settles result (change_faults (names_in self.now.arrays.now state.old) line name.now (tree_of index.now) (tree_of value.now))
+            (λ s. (rest : Code) → stmt_code s rest ≡ change (λ array at amount. kernel.Update array at amount minus line state.old.site rest) (names_in self.now.arrays.now state.old) state.old.site name.now (tree_of index.now) (tree_of value.now)) }
         ensures site { OnOk result (state.new.site ≡ state.old.site + 1 + sites (tree_of index.now) + sites (tree_of value.now)) }
         ensures slot { state.new.slot ≡ state.old.slot }
         ensures variables { state.new.variables.items ≡ state.old.variables.items }

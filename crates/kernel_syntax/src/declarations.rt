@@ -8,7 +8,7 @@ use std::alloc::{AllocError, Global};
 use std::marker::Model;
 
 /// A name of at most 32 bytes, which contracts see as its bytes.
-#[derive(Debug, Drop)]
+#[derive(Drop)]
 pub struct Name {
     text: ArrayString<32>,
 }
@@ -47,7 +47,7 @@ impl Name {
 }
 
 /// The arrays of a kernel, which contracts see as a list.
-#[derive(Debug, Drop)]
+#[derive(Drop)]
 pub struct Arrays {
     items: Vec<Array>,
 }
@@ -112,7 +112,7 @@ fn align(n: u64) -> u64
 }
 
 /// The names of a kernel's mutexes, which contracts see as a list.
-#[derive(Debug, Drop)]
+#[derive(Drop)]
 pub struct Names {
     items: Vec<Name>,
 }

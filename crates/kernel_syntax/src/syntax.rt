@@ -2,7 +2,7 @@
 use crate::declarations::{Arrays, Name, Names};
 
 /// A whole kernel. Its `main` is a team of span 1.
-#[derive(Debug, Drop)]
+#[derive(Drop)]
 pub struct Kernel {
     /// The shared arrays, in order of declaration.
     pub arrays: Arrays,
@@ -16,7 +16,7 @@ pub struct Kernel {
 }
 
 /// A shared array. Element `i` has the address `base + i * width` and the number `first + i`.
-#[derive(Debug, Drop)]
+#[derive(Drop)]
 pub struct Array {
     pub name: Name,
     /// Bytes of an element: 1, 2, 4 or 8.
@@ -31,7 +31,7 @@ pub struct Array {
 
 /// The lanes of a parallel region (OpenMP 5.2: a team of threads), and what each executes.
 #[cycle(stmts)]
-#[derive(Debug, Drop)]
+#[derive(Drop)]
 pub struct Team {
     /// How many lanes the team has.
     pub span: u16,
@@ -43,7 +43,7 @@ pub struct Team {
 }
 
 /// How a worksharing loop's iterations go to the lanes (OpenMP 5.2: its schedule).
-#[derive(Clone, Copy, PartialEq, Eq, Debug)]
+#[derive(Clone, Copy, PartialEq)]
 pub enum Schedule {
     /// One contiguous share for each lane, of nearly equal lengths.
     Even,
@@ -54,7 +54,7 @@ pub enum Schedule {
 }
 
 /// An operation on two values.
-#[derive(Clone, Copy, PartialEq, Eq, Debug)]
+#[derive(Clone, Copy, PartialEq, Debug)]
 pub enum Op {
     Add,
     Sub,
@@ -70,7 +70,6 @@ pub enum Op {
 }
 
 /// An expression. A line is that of the array's name or of the operator.
-#[derive(Debug)]
 pub enum Expr {
     Number(i64),
     /// A local variable, by its slot.
@@ -121,7 +120,7 @@ impl Drop for Expr {
 
 /// A list of statements.
 #[cycle(stmts)]
-#[derive(Debug, Drop)]
+#[derive(Drop)]
 pub struct Body {
     pub stmts: Vec<Stmt>,
 }
@@ -129,7 +128,7 @@ pub struct Body {
 /// A statement. `line` is that of the array's name or of the keyword, `end` that of the closing
 /// brace.
 #[cycle(stmts)]
-#[derive(Debug, Drop)]
+#[derive(Drop)]
 pub enum Stmt {
     Set {
         slot: u32,

@@ -5,7 +5,7 @@ ghost use Rattle.kernel_text.specs.declared.fault.TextFault.TheVariants.{Memory}
 use std::alloc::{AllocError, AllocFailed};
 
 /// What is wrong with a kernel's text.
-#[derive(Clone, Copy, Debug, PartialEq, Eq)]
+#[derive(Clone, Copy, Debug)]
 pub enum KernelWhy {
     /// A character that begins no token, or a number or a name that is too large or too long.
     Token,
@@ -38,7 +38,7 @@ pub enum KernelWhy {
 }
 
 /// Why `tokens` answers none.
-#[derive(Debug, Drop)]
+#[derive(Drop)]
 pub enum TextFault {
     /// The first fault of the text; lines are numbered from 1.
     Refused { line: u32, why: KernelWhy },

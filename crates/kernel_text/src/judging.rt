@@ -13,7 +13,7 @@ use std::alloc::{AllocError, Global};
 
 /// A part of a kernel that is wanted next. A level is how many blocks are open around it, or how
 /// many brackets and prefix signs of the same expression.
-#[derive(Clone, Copy, Debug)]
+#[derive(Clone, Copy)]
 pub enum Want {
     /// Declarations, `main` and its block.
     Kernel,
@@ -47,7 +47,7 @@ pub enum Want {
 }
 
 /// What came of a token.
-#[derive(Clone, Copy, Debug)]
+#[derive(Clone, Copy)]
 pub enum Moved {
     /// It can't stand there.
     Fails,
@@ -59,7 +59,7 @@ pub enum Moved {
 }
 
 /// What tokens are.
-#[derive(Clone, Copy, Debug, PartialEq, Eq)]
+#[derive(Clone, Copy)]
 pub enum Verdict {
     /// A kernel of at most 32 levels.
     Kernel,

@@ -4,7 +4,7 @@ ghost use Rattle.kernel_text.specs.Grammar.{IsOperation};
 use kernel_syntax::{Name, Op};
 
 /// A reserved name.
-#[derive(Clone, Copy, Debug, PartialEq, Eq)]
+#[derive(Clone, Copy)]
 pub enum Word {
     Array,
     Mutex,
@@ -27,7 +27,7 @@ pub enum Word {
 }
 
 /// A sign.
-#[derive(Clone, Copy, Debug, PartialEq, Eq)]
+#[derive(Clone, Copy)]
 pub enum Sign {
     OpenBrace,
     CloseBrace,
@@ -56,7 +56,7 @@ pub enum Sign {
 }
 
 /// What a token is.
-#[derive(Debug, Drop)]
+#[derive(Drop)]
 pub enum Lexeme {
     /// A name that isn't reserved.
     Named(Name),
@@ -67,7 +67,7 @@ pub enum Lexeme {
 }
 
 /// A token and its line, numbered from 1.
-#[derive(Debug, Drop)]
+#[derive(Drop)]
 pub struct Token {
     pub lexeme: Lexeme,
     pub line: u32,

@@ -4,7 +4,7 @@ ghost use Rattle.log_format.specs.Format.{log_header, index_header, older_header
 use sw_base::{INDEX_HEADER, LOG_HEADER, OLD_INDEX_HEADER, OLD_LOG_HEADER};
 
 /// What logs and indexes begin with, and which kinds of records there are.
-#[derive(Clone, Copy, Debug, PartialEq, Eq)]
+#[derive(Clone, Copy)]
 pub enum Format {
     /// Without updates.
     First,

@@ -5,7 +5,7 @@ pub const RECORD_SIZE: usize = 24;
 pub const RECORD_LIMIT: u32 = 4_194_304;
 
 /// What a task did.
-#[derive(Clone, Copy, Debug, PartialEq, Eq, Hash)]
+#[derive(Clone, Copy, PartialEq, Eq)]
 pub enum Kind {
     /// An access that reads.
     Read,
@@ -28,7 +28,7 @@ pub enum Kind {
 }
 
 /// One step of a task, as its log tells it.
-#[derive(Clone, Copy, Debug, PartialEq, Eq, Hash)]
+#[derive(Clone, Copy, PartialEq)]
 pub struct Record {
     pub kind: Kind,
     /// The bytes of an access, 1, 2, 4 or 8; else 0.
@@ -44,7 +44,7 @@ pub struct Record {
 }
 
 /// Why bytes spell no record: the first test that they fail, in this order.
-#[derive(Clone, Copy, Debug, PartialEq, Eq, Hash)]
+#[derive(Clone, Copy, Debug, PartialEq)]
 pub enum Why {
     /// The first byte names no kind.
     Kind,

@@ -12,7 +12,7 @@ use std::marker::Model;
 const MOST: usize = 8;
 
 /// Why a mutex can't be taken.
-#[derive(Clone, Copy, Debug, PartialEq, Eq)]
+#[derive(Clone, Copy, Debug, PartialEq)]
 pub enum HeldFault {
     /// The task holds it already.
     HeldAlready,
@@ -21,7 +21,7 @@ pub enum HeldFault {
 }
 
 /// A mutex can't be given back, since it isn't the one that was taken last.
-#[derive(Clone, Copy, Debug, PartialEq, Eq)]
+#[derive(Clone, Copy, Debug, PartialEq)]
 pub struct NotInnermost;
 
 /// The numbers of the mutexes that a task holds, the innermost last. Contracts see the list of them.

@@ -1,5 +1,5 @@
 /// Why a row of an index is bad, in the order in which the rules are tried. `Old` and `Header` stand at row 0.
-#[derive(Clone, Copy, Debug, PartialEq, Eq, Hash)]
+#[derive(Clone, Copy, Debug, PartialEq, Eq)]
 pub enum IndexWhy {
     /// The file begins with the header of an index of the format before.
     Old,
@@ -22,7 +22,7 @@ pub enum IndexWhy {
 }
 
 /// Why a record of a log is bad, in the order in which the rules are tried. `Header` stands at record 0.
-#[derive(Clone, Copy, Debug, PartialEq, Eq, Hash)]
+#[derive(Clone, Copy, Debug, PartialEq, Eq)]
 pub enum RecordWhy {
     /// The file doesn't begin with the log's header.
     Header,

@@ -9,7 +9,7 @@ use Rattle.command_answer.specs.Texts.{index_exists_text}
 use Rattle.command_answer.specs.declared.status.TheConstants.{DONE, KERNEL_REFUSED, KERNEL_STOPPED, INDEX_THERE, READ_FAULT, WRITE_FAULT, NO_MEMORY}
 use Rattle.run_command.specs.declared.outcome.Outcome.{Outcome}
 use Rattle.run_command.specs.declared.outcome.Outcome.TheVariants.{NoKernel, Refused, IndexThere, Stopped, Ran, ReadFault, WriteFault, NoMemory}
-use Rattle.run_texts.specs.Texts.{stop_line, run_text}
+use Rattle.command_answer.specs.RunTexts.{stop_line, run_text}
 
 -- after a read that failed
 abbrev pub unread : Trouble → Outcome

@@ -9,9 +9,9 @@ ghost use Rattle.run_command.specs.declared.outcome.Outcome.TheVariants as came;
 use crate::outcome::Outcome;
 use command_answer::{
     DONE, INDEX_THERE, KERNEL_STOPPED, NO_MEMORY, READ_FAULT, WRITE_FAULT, print, print_made,
+    run_text, stop_line,
 };
 use kernel_file::{KernelRefusal, refuse_kernel};
-use run_texts::{ran, stopped};
 use std::alloc::Global;
 use sw_base::Out;
 
@@ -38,7 +38,12 @@ pub fn print_outcome<O: Out>(alloc: Global, out: &mut O, outcome: &Outcome) -> u
         }
         Outcome::IndexThere => print(alloc, out, INDEX_EXISTS, INDEX_THERE),
         Outcome::Stopped { path, line, why } => {
-            print_made(alloc, out, stopped(alloc, path, *line, why), KERNEL_STOPPED)
+            print_made(
+                alloc,
+                out,
+                stop_line(alloc, path, *line, why),
+                KERNEL_STOPPED,
+            )
         }
         Outcome::Ran {
             kernel,
@@ -46,7 +51,7 @@ pub fn print_outcome<O: Out>(alloc: Global, out: &mut O, outcome: &Outcome) -> u
             records,
             words,
         } => {
-            let text = ran(alloc, *tasks, *records, kernel.arrays.as_slice(), words);
+            let text = run_text(alloc, *tasks, *records, kernel.arrays.as_slice(), words);
             print_made(alloc, out, text, DONE)
         }
         Outcome::ReadFault => READ_FAULT,

@@ -5,7 +5,7 @@ use std::marker::Model;
 
 /// One level of nesting: the lane plus the span for each region that was joined there, the span, and the team's
 /// barriers so far. Contracts see the model's triple.
-#[derive(Clone, Copy, Debug, PartialEq, Eq)]
+#[derive(Clone, Copy, PartialEq)]
 pub struct Triple {
     pub offset: u64,
     pub span: u16,

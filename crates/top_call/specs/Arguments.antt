@@ -168,7 +168,7 @@ abbrev pub texts : List (String Global) → List (List ℕ)
 texts arguments = map string_bytes arguments
 
 abbrev pub usage_text : List ℕ
-usage_text = codes "usage: sword check DIR W | run KERNEL DIR SIZE | replay KERNEL DIR | show DIR | gen N W | upgrade DIR NEW | explain DIR L M | confirm DIR A I B J | certify KERNEL | live KERNEL DIR SIZE\n"
+usage_text = codes "usage: sword check DIR W | run KERNEL DIR SIZE | replay KERNEL DIR | show DIR | gen N W | upgrade DIR NEW | certify KERNEL | explain DIR L M | confirm DIR A I B J | live KERNEL DIR SIZE\n"
 
 -- the one answer to arguments that ask for nothing
 abbrev pub UsageDue : ℕ → List ℕ → Type 0

@@ -6,7 +6,7 @@ ghost use Rattle.top_call.specs.Commands.{request_of};
 use std::alloc::{AllocError, Global};
 
 /// A record of a folder, by its row and its number, both from 1.
-#[derive(Clone, Copy, Debug, PartialEq, Eq)]
+#[derive(Clone, Copy)]
 pub struct RecordName {
     pub row: u64,
     pub number: u64,

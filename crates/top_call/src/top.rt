@@ -33,7 +33,7 @@ use sw_base::{Folder, Gate, Out};
 pub const STACK: usize = 1 << 28;
 
 const USAGE_LINE: &[u8] =
-    b"usage: sword check DIR W | run KERNEL DIR SIZE | replay KERNEL DIR | show DIR | gen N W | upgrade DIR NEW | explain DIR L M | confirm DIR A I B J | certify KERNEL | live KERNEL DIR SIZE\n";
+    b"usage: sword check DIR W | run KERNEL DIR SIZE | replay KERNEL DIR | show DIR | gen N W | upgrade DIR NEW | certify KERNEL | explain DIR L M | confirm DIR A I B J | live KERNEL DIR SIZE\n";
 
 /// Does what the arguments after the program's name ask for, and answers the status that the program ends with.
 ///
@@ -65,7 +65,7 @@ pub fn sword<R: Threads + Wait + Sync + Copy + Send + 'static, F: Folder, O: Out
     // whole trace of its task under what the log reads and draws; or the first record, in the order of the rows and then by number,
     // that isn't the trace's.
     ensures replay { (kernel dir : List ℕ) → SaysReplay (texts arguments.now) kernel dir → WhereTold (F.state folder.old).content (λ c.
-        Tries (ReplayDue c.held kernel dir) (O.written out.old) (O.written out.new) result) }
+        Answers (ReplayDue c.held kernel dir) (O.written out.old) (O.written out.new) result) }
 
     // `gen` answers how many accesses and barrier intervals the run of so many rounds has, and the line pairs of its races.
     ensures gen_ { (rounds workers : ℕ) → SaysGen (texts arguments.now) rounds workers → Answers (GenDue rounds) (O.written out.old) (O.written out.new) result }
@@ -91,12 +91,12 @@ pub fn sword<R: Threads + Wait + Sync + Copy + Send + 'static, F: Folder, O: Out
     // `explain` answers the first bad place of the folder; or, of the run that it holds, the least race of the two lines, whose records `confirm`
     // confirms, or that the lines are no race pair.
     ensures explain { (dir : List ℕ) (low high : ℕ) → SaysExplain (texts arguments.now) dir low high → WhereTold (F.state folder.old).content (λ c.
-        Tries (FolderDue (HasExplanation low high) c.held dir) (O.written out.old) (O.written out.new) result) }
+        Answers (FolderDue (HasExplanation low high) c.held dir) (O.written out.old) (O.written out.new) result) }
 
     // `confirm` answers the first bad place of the folder; or, of the run that it holds, the first byte that the two records have in common
     // if they race, or that they don't.
     ensures confirm { (dir : List ℕ) (first_row first second_row second : ℕ) → SaysConfirm (texts arguments.now) dir first_row first second_row second → WhereTold (F.state folder.old).content (λ c.
-        Tries (FolderDue (HasConfirmation first_row first second_row second) c.held dir) (O.written out.old) (O.written out.new) result) }
+        Answers (FolderDue (HasConfirmation first_row first second_row second) c.held dir) (O.written out.old) (O.written out.new) result) }
 
     // `certify` answers that there is no kernel, or a verdict on the kernel whose cause is there: that each of its runs that ends has the logs of its
     // serial run, of which it prints the text of `run`; or the first reason for which that isn't certain.

@@ -1,6 +1,6 @@
 use Rattle.std.proofs.Common.{◌≡◌, take}
 use Rattle.std.proofs.lemmas.List.{take_all}
-use Rattle.run_texts.proofs.ran.Goals as goal
+use Rattle.command_answer.proofs.run_texts.run_text.Goals as goal
 
 pub returns : goal.returns
 returns c =

@@ -1,7 +1,7 @@
 use Rattle.std.proofs.Common.{arith}
 use Rattle.std.proofs.lemmas.Int.{ints}
-use Rattle.run_texts.proofs.Sums.{sum_of-drop}
-use Rattle.run_texts.proofs.sum_of.Goals as goal
+use Rattle.command_answer.proofs.Sums.{sum_of-drop}
+use Rattle.command_answer.proofs.run_texts.sum_of.Goals as goal
 
 pub loop-value-preserved : goal.loop-value-preserved
 loop-value-preserved c =

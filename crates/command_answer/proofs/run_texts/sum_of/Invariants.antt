@@ -1,6 +1,6 @@
 use Rattle.std.proofs.Common.{◌≡◌, ◌*◌, ◌^◌, drop, pos, neg_ℤ, ◌+ℤ◌, ◌≤ℤ◌}
-use Rattle.run_texts.specs.Texts.{sum_of}
-use Rattle.run_texts.proofs.sum_of.Given as goal
+use Rattle.command_answer.specs.RunTexts.{sum_of}
+use Rattle.command_answer.proofs.run_texts.sum_of.Given as goal
 
 abbrev pub invariant-loop-value : goal.invariant-loop-value
 invariant-loop-value l = record {

@@ -13,6 +13,8 @@ use Rattle.top_call.proofs.ArgumentLists.{same_certify, same_check, same_confirm
 use Rattle.folder_commands.specs.Gen.{GenDue}
 use Rattle.folder_commands.specs.Replay.{ReplayDue}
 use Rattle.folder_commands.specs.Upgrade.{IsUpgraded, UpgradeDue}
+use Rattle.folder_commands.proofs.OneExplanation.{one_confirmation, one_explanation}
+use Rattle.folder_commands.proofs.OneReplay.{one_replay}
 use Rattle.folder_commands.proofs.OneSummary.{one_summary}
 use Rattle.log_upgrade.specs.Upgrade.{LeavesUpgrade}
 use Rattle.top_call.proofs.top.sword.Goals as goal
@@ -95,8 +97,11 @@ returns-in-Ok-None-clause-replay g c = λ kernel dir says. let usage = rw c.in-O
 pub returns-in-Ok-Some-Replay-clause-replay : goal.returns-in-Ok-Some-Replay-clause-replay
 returns-in-Ok-Some-Replay-clause-replay g c = λ kernel dir says content told.
     let said = rw (c.in-Ok-Some-Replay.field-0-is, c.in-Ok-Some-Replay.field-0-0-is) at c.in-Ok-Some-Replay.ensures.said in
-    same_replay (λ (k d : List ℕ). Tries (ReplayDue content.held k d) (g.O.Out.written c.args.out.now) (g.O.Out.written c.replay_file.new.out) c.replay_file.result) (texts c.args.arguments.now) _ _ kernel dir
-    said says (c.replay_file.ensures.answers content told)
+    same_replay (λ (k d : List ℕ). Answers (ReplayDue content.held k d) (g.O.Out.written c.args.out.now) (g.O.Out.written c.replay_file.new.out) c.replay_file.result) (texts c.args.arguments.now) _ _ kernel dir
+    said says (Answers-of _ (one_replay content.held _ _) _ _ _ (c.replay_file.ensures.answers content told))
+
+pub returns-in-Err-clause-replay : goal.returns-in-Err-clause-replay
+returns-in-Err-clause-replay g c = λ kernel dir says content told. Answers-of _ (one_replay content.held kernel dir) _ _ _ (silent (inr (inr refl)) refl)
 
 pub returns-in-Ok-Some-Check-clause-only_reads : goal.returns-in-Ok-Some-Check-clause-only_reads
 returns-in-Ok-Some-Check-clause-only_reads g c = λ _.
@@ -171,8 +176,13 @@ returns-in-Ok-None-clause-confirm g c = λ dir first_row first second_row second
 pub returns-in-Ok-Some-Confirm-clause-confirm : goal.returns-in-Ok-Some-Confirm-clause-confirm
 returns-in-Ok-Some-Confirm-clause-confirm g c = λ dir first_row first second_row second says content told.
     let said = rw (c.in-Ok-Some-Confirm.field-0-is, c.in-Ok-Some-Confirm.field-0-0-is) at c.in-Ok-Some-Confirm.ensures.said in
-    same_confirm (λ (d : List ℕ) (a i b j : ℕ). Tries (FolderDue (HasConfirmation a i b j) content.held d) (g.O.Out.written c.args.out.now) (g.O.Out.written c.confirm_records.new.out) c.confirm_records.result)
-    (texts c.args.arguments.now) _ dir _ _ _ _ first_row first second_row second said says (c.confirm_records.ensures.answers content told)
+    same_confirm (λ (d : List ℕ) (a i b j : ℕ). Answers (FolderDue (HasConfirmation a i b j) content.held d) (g.O.Out.written c.args.out.now) (g.O.Out.written c.confirm_records.new.out) c.confirm_records.result)
+    (texts c.args.arguments.now) _ dir _ _ _ _ first_row first second_row second said says
+    (Answers-of _ (one_confirmation _ _ _ _ content.held _) _ _ _ (c.confirm_records.ensures.answers content told))
+
+pub returns-in-Err-clause-confirm : goal.returns-in-Err-clause-confirm
+returns-in-Err-clause-confirm g c = λ dir first_row first second_row second says content told.
+    Answers-of _ (one_confirmation first_row first second_row second content.held dir) _ _ _ (silent (inr (inr refl)) refl)
 
 pub returns-in-Ok-Some-Confirm-clause-only_reads : goal.returns-in-Ok-Some-Confirm-clause-only_reads
 returns-in-Ok-Some-Confirm-clause-only_reads g c = λ _.
@@ -189,8 +199,11 @@ returns-in-Ok-None-clause-explain g c = λ dir low high says.
 pub returns-in-Ok-Some-Explain-clause-explain : goal.returns-in-Ok-Some-Explain-clause-explain
 returns-in-Ok-Some-Explain-clause-explain g c = λ dir low high says content told.
     let said = rw (c.in-Ok-Some-Explain.field-0-is, c.in-Ok-Some-Explain.field-0-0-is) at c.in-Ok-Some-Explain.ensures.said in
-    same_explain (λ (d : List ℕ) (n m : ℕ). Tries (FolderDue (HasExplanation n m) content.held d) (g.O.Out.written c.args.out.now) (g.O.Out.written c.explain_lines.new.out) c.explain_lines.result)
-    (texts c.args.arguments.now) _ dir _ _ low high said says (c.explain_lines.ensures.answers content told)
+    same_explain (λ (d : List ℕ) (n m : ℕ). Answers (FolderDue (HasExplanation n m) content.held d) (g.O.Out.written c.args.out.now) (g.O.Out.written c.explain_lines.new.out) c.explain_lines.result)
+    (texts c.args.arguments.now) _ dir _ _ low high said says (Answers-of _ (one_explanation _ _ content.held _) _ _ _ (c.explain_lines.ensures.answers content told))
+
+pub returns-in-Err-clause-explain : goal.returns-in-Err-clause-explain
+returns-in-Err-clause-explain g c = λ dir low high says content told. Answers-of _ (one_explanation low high content.held dir) _ _ _ (silent (inr (inr refl)) refl)
 
 pub returns-in-Ok-Some-Explain-clause-only_reads : goal.returns-in-Ok-Some-Explain-clause-only_reads
 returns-in-Ok-Some-Explain-clause-only_reads g c = λ _.
