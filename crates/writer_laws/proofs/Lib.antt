@@ -1,0 +1,16 @@
+pub mod Carried
+pub mod Cut
+pub mod CutCase
+pub mod CutForks
+pub mod CutRecords
+pub mod CutTasks
+pub mod Dropped
+pub mod Forks
+pub mod Guarding
+pub mod Kept
+pub mod KeptRun
+pub mod Renumbered
+pub mod Replaced
+pub mod Split
+pub mod Unordered
+pub mod Valued

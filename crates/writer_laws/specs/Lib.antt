@@ -1,0 +1,9 @@
+pub mod Carrying
+pub mod Cutting
+pub mod Dropping
+pub mod Guards
+pub mod Places
+pub mod Renumbering
+pub mod Splitting
+pub mod StandIns
+pub mod Values
