@@ -12,6 +12,7 @@ use Rattle.race_model.specs.Race.{IsAccess}
 use Rattle.race_model.specs.ForkJoin.{IsForkJoin, IsTask, EndsOnce, WasForked}
 use Rattle.writer_laws.specs.Places.{forks, ForkAlike}
 use Rattle.writer_laws.specs.Dropping.{only_kept, Drops}
+use Rattle.writer_laws.proofs.Ends.{NoEnd, access_no_end, ends_later, some_record}
 use Rattle.writer_laws.proofs.Forks.{barrier_step}
 use Rattle.writer_laws.proofs.Kept.{idle, rest, LeavesAccesses, forks_kept}
 use Rattle.writer_laws.proofs.Unordered.{alike_back, forked_too, lane_too, IsForkedToo}
@@ -21,9 +22,6 @@ pub record EndsAlike (logs others : Logs) : Type 0 where
   pub ends : (path : List Step) → EndsOnce (logs path) → EndsOnce (others path)
   pub nothing : (path : List Step) → logs path ≡ [] → others path ≡ []
   pub barriers : (path : List Step) → barrier_count (logs path) ≡ barrier_count (others path)
-
-some_record : (records : List Record) → EndsOnce records → 0 < length records
-some_record records e = let long : length records ≡ length e.prefix + 1 = ap length e.parts ∙ length_push e.prefix e.last in omega arith
 
 module _ (logs others : Logs) (tree : IsForkJoin logs) (alike : ForkAlike logs others) (same : EndsAlike logs others) where
   was_task : (path : List Step) → IsTask others path → IsTask logs path
@@ -65,23 +63,6 @@ module _ (logs others : Logs) (tree : IsForkJoin logs) (alike : ForkAlike logs o
             above = w.above;
             lane = lane_too logs others w.fork step.lane step.span (path ++ step ∷ []) (path ++ step ∷ []) w.lane refl f;
           }
-
-abbrev pub NoEnd : Record → Type 0
-NoEnd r = r.kind ≡ End → ⊥
-
-access_no_end : (r : Record) → IsAccess r → NoEnd r
-access_no_end r (inl read) ends = cc
-access_no_end r (inr (inl write)) ends = cc
-access_no_end r (inr (inr update)) ends = cc
-
-pub ends_later : (r : Record) (records : List Record) → NoEnd r → EndsOnce records → EndsOnce (r ∷ records)
-ends_later r records no_end e = record {
-  prefix = r ∷ e.prefix;
-  last = e.last;
-  parts = ap (λ (l : List Record). r ∷ l) e.parts;
-  ends = e.ends;
-  once = All-cons NoEnd r e.prefix no_end e.once;
-}
 
 ends_kept : (keep : ℕ → Bool) (prefix : List Record) (last : Record) → LeavesAccesses keep (prefix ++ last ∷ []) → last.kind ≡ End → All NoEnd prefix → EndsOnce (only_kept keep (prefix ++ last ∷ []))
 ends_kept keep [] last leaves ends once = at (keep 0) refl

@@ -5,6 +5,7 @@ pub mod CutForks
 pub mod CutRecords
 pub mod CutTasks
 pub mod Dropped
+pub mod Ends
 pub mod Forks
 pub mod Guarding
 pub mod Kept

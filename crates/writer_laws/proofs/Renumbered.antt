@@ -47,16 +47,16 @@ from_once number _ q _ (IsFrom.lane p other above beside r n s up parts lane) ta
 
 module _ (number : Numbers) (offset : List Step → ℕ) (logs others : Logs) (were : WereForks number offset logs others) (teams : KeepsTeams number offset logs others) where
   -- the region that a region of the other run was
-  record WasRegion (path : List Step) (f : Node) (s : ℕ) : Type 0 where
-    index : ℕ
-    event : Record
-    found : slice_get (logs path) index ≡ Some event
-    region : event.kind ≡ Region
-    spans : event.value ≡ s
-    number_is : regions_before logs (record { path = path; index = index }) ≡ number f.path (regions_before others f)
-    as_many : barriers_before logs (record { path = path; index = index }) ≡ barriers_before others f + offset f.path
+  pub record WasRegion (path : List Step) (f : Node) (s : ℕ) : Type 0 where
+    pub index : ℕ
+    pub event : Record
+    pub found : slice_get (logs path) index ≡ Some event
+    pub region : event.kind ≡ Region
+    pub spans : event.value ≡ s
+    pub number_is : regions_before logs (record { path = path; index = index }) ≡ number f.path (regions_before others f)
+    pub as_many : barriers_before logs (record { path = path; index = index }) ≡ barriers_before others f + offset f.path
 
-  was_region : (path child : List Step) (f : Node) (n s : ℕ) → IsFrom number path f.path → IsLane others f n s child → WasRegion path f s
+  pub was_region : (path child : List Step) (f : Node) (n s : ℕ) → IsFrom number path f.path → IsLane others f n s child → WasRegion path f s
   was_region path child f n s task lane =
       let listed = fork_listed 0 (others f.path) f.index lane.event lane.found lane.region in
       let was = were path f.path (regions_before others f) (record { span = lane.event.value; barriers = 0 + barriers_before others f }) task listed in
@@ -72,7 +72,7 @@ module _ (number : Numbers) (offset : List Step → ℕ) (logs others : Logs) (w
         as_many = omega arith;
       }
 
-  was_lane : (path child old : List Step) (f : Node) (n s : ℕ) (was : WasRegion path f s) → IsLane others f n s child → old ≡ lane_of path (number f.path (regions_before others f)) n s
+  pub was_lane : (path child old : List Step) (f : Node) (n s : ℕ) (was : WasRegion path f s) → IsLane others f n s child → old ≡ lane_of path (number f.path (regions_before others f)) n s
       → IsLane logs (record { path = path; index = was.index }) n s old
   was_lane path child old f n s was lane parts = record {
     event = was.event;

@@ -1,6 +1,6 @@
 -- The race pairs of a run are those of its parts.
 use Rattle.std.proofs.Common.{◌≡◌, ◌⊎◌, ◌↔◌, ℕ, zero, suc, ◌+◌, ◌-◌, append-nil, ◌<◌, ◌≤◌, List, [], ◌∷◌, ◌++◌, length, take, Some, refl, sym, ap, subst, arith, ◌∙◌, inl, inr}
-use Rattle.std.specs.Prelude.{slice_get, Contains}
+use Rattle.std.specs.Prelude.{slice_get, Contains, All}
 use Rattle.std.proofs.lemmas.Bool.{cases_lt}
 use Rattle.std.proofs.lemmas.List.{length_push, same_from_push}
 use Rattle.std.proofs.lemmas.Option.{slice_get_within}
@@ -12,16 +12,17 @@ use Rattle.race_model.specs.Trace.{Logs, Node, record_at, regions_before, barrie
 use Rattle.race_model.specs.Listing.{lane_of}
 use Rattle.race_model.specs.Order.{IsLane}
 use Rattle.race_model.specs.Race.{IsRacePair, held_after}
-use Rattle.race_model.specs.ForkJoin.{IsForkJoin, IsTask, WasForked}
+use Rattle.race_model.specs.ForkJoin.{IsForkJoin, IsTask, EndsOnce, WasForked}
 use Rattle.race_model.proofs.TraceLogs.{record_there}
 use Rattle.race_laws.proofs.LabelPlace.{HasLast, has_last, not_both_empty, is_region, same_region}
 use Rattle.counted_order.proofs.Paths.{unordered_parts}
 use Rattle.writer_laws.specs.Places.{Fork, forks, forks_from}
-use Rattle.writer_laws.specs.Renumbering.{IsFrom, ComesFrom, WereForks, KeepsTeams}
+use Rattle.writer_laws.specs.Renumbering.{IsFrom, AreForked, ComesFrom, WereForks, KeepsTeams}
 use Rattle.writer_laws.specs.Splitting.{later_number, KeepsLogs, IsSplit}
 use Rattle.writer_laws.specs.StandIns.{Covers, HasStandIn, IsReplaced}
-use Rattle.writer_laws.proofs.Forks.{fork_listed, find_fork}
-use Rattle.writer_laws.proofs.Renumbered.{carried, carried_back}
+use Rattle.writer_laws.proofs.Ends.{NoEnd, ends_here, ends_after, ends_apart, some_record as some_record_of}
+use Rattle.writer_laws.proofs.Forks.{fork_listed, find_fork, barrier_step}
+use Rattle.writer_laws.proofs.Renumbered.{was_region, was_lane, carried, carried_back}
 use Rattle.writer_laws.proofs.Replaced.{pair_by, no_pair_lost}
 use Rattle.writer_laws.proofs.CutForks.{barriers_both, forks_both, forks_length, raised}
 use Rattle.writer_laws.proofs.Cut.{root_ordered}
@@ -43,7 +44,7 @@ under_more region [] step is deep = absurd (deep refl)
 under_more region (t ∷ path) step is deep = is
 
 -- a part: its regions of the root are some of the run's
-module _ (k : ℕ) (logs part : Logs) (tree : IsForkJoin logs) (part_tree : IsForkJoin part) (tasks : KeepsLogs k logs part)
+module _ (k : ℕ) (logs part : Logs) (tree : IsForkJoin logs) (root_ends : EndsOnce (part [])) (root_level : barrier_count (part []) ≡ 0) (part_forked : AreForked part) (tasks : KeepsLogs k logs part)
     (regions : (r : ℕ) (f : Fork) → slice_get (forks (part [])) r ≡ Some f → slice_get (forks (logs [])) (r + k) ≡ Some f) where
   abbrev Comes : Node → Node → Type 0
   Comes x v = ComesFrom (later_number k) no_offset logs part x v
@@ -70,7 +71,7 @@ module _ (k : ℕ) (logs part : Logs) (tree : IsForkJoin logs) (part_tree : IsFo
   classify : (path other : List Step) → IsFrom (later_number k) path other → IsTask part other → Where path other
   classify _ _ (IsFrom.root path other e f) task = Where.root e f
   classify _ _ (IsFrom.lane path other above beside r n s up parts is) task =
-      let forked = part_tree.tasks.forked beside (record { region = r; lane = n; span = s }) (subst (λ (p : List Step). IsTask part p) is task) in
+      let forked = part_forked beside (record { region = r; lane = n; span = s }) (subst (λ (p : List Step). IsTask part p) is task) in
       let lane : IsLane part forked.fork n s other = subst (λ (p : List Step). IsLane part forked.fork n s p) (sym is) forked.lane in
       Where.kept (λ e. not_both_empty other beside (record { region = r; lane = n; span = s }) e is) (tasks path other forked.fork n s (IsFrom.lane path other above beside r n s up parts is) lane)
 
@@ -138,6 +139,64 @@ module _ (k : ℕ) (logs part : Logs) (tree : IsForkJoin logs) (part_tree : IsFo
             from = IsFrom.lane (lane_of o.path (later_number k l.prefix l.last.region) l.last.lane l.last.span) other o.path l.prefix l.last.region l.last.lane l.last.span o.from refl l.parts;
           }
 
+  -- a part is a fork-join run again
+  origin : (other : List Step) → HasOrigin other
+  origin other = origins (suc (length other)) other (omega arith)
+
+  ended_there : (other : List Step) → IsTask part other → EndsOnce (part other)
+  ended_there other task = by (origin other)
+    where
+      by : HasOrigin other → EndsOnce (part other)
+      by o = at (classify o.path other o.from task)
+        where
+          at : Where o.path other → EndsOnce (part other)
+          at (Where.root p e) = subst (λ (w : List Step). EndsOnce (part w)) (sym e) root_ends
+          at (Where.kept deep same) = subst EndsOnce (sym same) (tree.ends.ended o.path (subst (λ (records : List Record). 0 < length records) same task))
+
+  -- the lane that a lane of the part was
+  record WasLane (fork : Node) (region : Node) (n s : ℕ) (child : List Step) : Type 0 where
+    old : List Step
+    lane : IsLane logs region n s old
+    same : part child ≡ logs old
+
+  record WasTeam (fork : Node) (s : ℕ) : Type 0 where
+    region : Node
+    each : (n : ℕ) (child : List Step) → IsLane part fork n s child → WasLane fork region n s child
+
+  was_team : (fork : Node) (n s : ℕ) (child : List Step) → IsLane part fork n s child → WasTeam fork s
+  was_team fork n s child lane = by (origin fork.path)
+    where
+      by : HasOrigin fork.path → WasTeam fork s
+      by o =
+          let was = was_region (later_number k) no_offset logs part were_forks keeps_teams o.path child fork n s o.from lane in
+          record {
+            region = record { path = o.path; index = was.index };
+            each = λ m beside there. record {
+              old = lane_of o.path (later_number k fork.path (regions_before part fork)) m s;
+              lane = was_lane (later_number k) no_offset logs part were_forks keeps_teams o.path beside (lane_of o.path (later_number k fork.path (regions_before part fork)) m s) fork m s was there refl;
+              same = tasks (lane_of o.path (later_number k fork.path (regions_before part fork)) m s) beside fork m s
+                  (IsFrom.lane (lane_of o.path (later_number k fork.path (regions_before part fork)) m s) beside o.path fork.path (regions_before part fork) m s o.from refl there.child) there;
+            };
+          }
+
+  pub part_run : IsForkJoin part
+  part_run = record {
+    tasks = record { root = some_record_of (part []) root_ends; forked = part_forked };
+    ends = record {
+      ended = ended_there;
+      lanes = λ fork n s path lane.
+          let team = was_team fork n s path lane in
+          let was = team.each n path lane in
+          subst (λ (records : List Record). 0 < length records) (sym was.same) (tree.ends.lanes team.region n s was.old was.lane);
+      same_barriers = λ fork n m s path beside mine yours.
+          let team = was_team fork n s path mine in
+          let one = team.each n path mine in
+          let two = team.each m beside yours in
+          ap barrier_count one.same ∙ (tree.ends.same_barriers team.region n m s one.old two.old one.lane two.lane ∙ sym (ap barrier_count two.same));
+      no_root_barrier = root_level;
+    };
+  }
+
   comes_by : (path other : List Step) (i : ℕ) (r : Record) → IsFrom (later_number k) path other → part other ≡ logs path → slice_get (part other) i ≡ Some r
       → Comes (record { path = path; index = i }) (record { path = other; index = i })
   comes_by path other i r from same found = record {
@@ -149,7 +208,7 @@ module _ (k : ℕ) (logs part : Logs) (tree : IsForkJoin logs) (part_tree : IsFo
   pub back_replaced : IsReplaced Back part logs
   back_replaced = record {
     carries = carried_back (later_number k) no_offset logs part were_forks keeps_teams;
-    stand_ins = λ v w r found access w_there unordered. stands v r found (root_ordered part v w part_tree (record_there part v r found) w_there unordered);
+    stand_ins = λ v w r found access w_there unordered. stands v r found (root_ordered part v w part_run (record_there part v r found) w_there unordered);
   }
     where
       stands : (v : Node) (r : Record) → record_at part v ≡ Some r → (v.path ≡ [] → ⊥) → HasStandIn Back part logs v r
@@ -241,7 +300,7 @@ module _ (k : ℕ) (logs part : Logs) (tree : IsForkJoin logs) (part_tree : IsFo
   -- a pair under one of the part's regions of the root is a pair of the part
   pub part_pair : (region : ℕ) → ((f : Fork) → slice_get (forks (logs [])) (region + k) ≡ Some f → slice_get (forks (part [])) region ≡ Some f)
       → (pair : ℕ × ℕ) (p : IsRacePair logs pair) → IsUnder (region + k) p.x.path → IsUnder (region + k) p.y.path → IsRacePair part pair
-  part_pair region has pair p mine yours = pair_by Comes logs part tree (carried (later_number k) no_offset logs part were_forks keeps_teams part_tree) pair p
+  part_pair region has pair p mine yours = pair_by Comes logs part tree (carried (later_number k) no_offset logs part were_forks keeps_teams part_run) pair p
       (stands p.x p.r p.race.left (parts_of region has (suc (length p.x.path)) p.x p.r (omega arith) mine p.race.left))
       (stands p.y p.s p.race.right (parts_of region has (suc (length p.y.path)) p.y p.s (omega arith) yours p.race.right))
     where
@@ -275,7 +334,7 @@ share_region (a ∷ path) (b ∷ other) (suc level) step beside mine yours share
     let heads : a ≡ b = cc in
     record { region = a.region; mine = refl; yours = sym (ap (λ (t : Step). t.region) heads) }
 
-module _ (logs one two : Logs) (tree : IsForkJoin logs) (one_tree : IsForkJoin one) (two_tree : IsForkJoin two) (split : IsSplit logs one two) where
+module _ (logs one two : Logs) (tree : IsForkJoin logs) (split : IsSplit logs one two) where
   abbrev fore : List Fork
   fore = forks split.before
 
@@ -329,6 +388,35 @@ module _ (logs one two : Logs) (tree : IsForkJoin logs) (one_tree : IsForkJoin o
       (sym (get_right fore (forks split.after) r)
       ∙ subst (λ (i : ℕ). slice_get (fore ++ forks split.after) i ≡ Some f) place (subst (λ (fs : List Fork). slice_get fs (r + k) ≡ Some f) root_forks found))
 
+  apart : All NoEnd split.before × EndsOnce split.after
+  apart = ends_apart split.before split.after (subst EndsOnce split.root (tree.ends.ended [] tree.tasks.root))
+      (subst (λ (records : List Record). 0 < length records) split.second_root split.goes_on)
+
+  one_ends : EndsOnce (one [])
+  one_ends = subst EndsOnce (sym split.first_root) (ends_after split.before (split.ended ∷ []) apart.0 (ends_here split.ended split.ends))
+
+  two_ends : EndsOnce (two [])
+  two_ends = subst EndsOnce (sym split.second_root) apart.1
+
+  no_barriers : barrier_count split.before + barrier_count split.after ≡ 0
+  no_barriers = sym (barriers_both split.before split.after) ∙ (ap barrier_count (sym split.root) ∙ tree.ends.no_root_barrier)
+
+  one_level : barrier_count (one []) ≡ 0
+  one_level =
+      let both : barrier_count (one []) ≡ barrier_count split.before + barrier_count (split.ended ∷ []) = ap barrier_count split.first_root ∙ barriers_both split.before (split.ended ∷ []) in
+      let none : barrier_count (split.ended ∷ []) ≡ 0 = barrier_step split.ended [] ∙ (let end = split.ends in rw end refl) in
+      let all = no_barriers in
+      omega arith
+
+  two_level : barrier_count (two []) ≡ 0
+  two_level = let all = no_barriers in let same : barrier_count (two []) ≡ barrier_count split.after = ap barrier_count split.second_root in omega arith
+
+  pub first_run : IsForkJoin one
+  first_run = part_run 0 logs one tree one_ends one_level split.first_forked split.first_tasks one_regions
+
+  pub second_run : IsForkJoin two
+  second_run = part_run k logs two tree two_ends two_level split.second_forked split.second_tasks two_regions
+
   parted : (pair : ℕ × ℕ) → IsRacePair logs pair → IsRacePair one pair ⊎ IsRacePair two pair
   parted pair p =
       let u = unordered_parts logs p.x p.y tree (record_there logs p.x p.r p.race.left) (record_there logs p.y p.s p.race.right) p.race.unordered in
@@ -340,16 +428,16 @@ module _ (logs one two : Logs) (tree : IsForkJoin logs) (one_tree : IsForkJoin o
           at : (s.region < k) ⊎ (k ≤ s.region) → IsRacePair one pair ⊎ IsRacePair two pair
           at (inl less) =
               let place : s.region ≡ s.region + 0 = omega arith in
-              inl (part_pair 0 logs one tree one_tree split.first_tasks one_regions s.region (in_one s.region less) pair p
+              inl (part_pair 0 logs one tree one_ends one_level split.first_forked split.first_tasks one_regions s.region (in_one s.region less) pair p
               (subst (λ (r : ℕ). IsUnder r p.x.path) place s.mine) (subst (λ (r : ℕ). IsUnder r p.y.path) place s.yours))
           at (inr le) =
               let place : s.region ≡ (s.region - k) + k = omega arith in
-              inr (part_pair k logs two tree two_tree split.second_tasks two_regions (s.region - k) (in_two (s.region - k)) pair p
+              inr (part_pair k logs two tree two_ends two_level split.second_forked split.second_tasks two_regions (s.region - k) (in_two (s.region - k)) pair p
               (subst (λ (r : ℕ). IsUnder r p.x.path) place s.mine) (subst (λ (r : ℕ). IsUnder r p.y.path) place s.yours))
 
   pub split_pairs : (pair : ℕ × ℕ) → IsRacePair logs pair ↔ (IsRacePair one pair ⊎ IsRacePair two pair)
   split_pairs pair = (parted pair, back)
     where
       back : IsRacePair one pair ⊎ IsRacePair two pair → IsRacePair logs pair
-      back (inl p) = no_pair_lost (Back 0 logs one tree one_tree split.first_tasks one_regions) one logs one_tree (back_replaced 0 logs one tree one_tree split.first_tasks one_regions) pair p
-      back (inr p) = no_pair_lost (Back k logs two tree two_tree split.second_tasks two_regions) two logs two_tree (back_replaced k logs two tree two_tree split.second_tasks two_regions) pair p
+      back (inl p) = no_pair_lost (Back 0 logs one tree one_ends one_level split.first_forked split.first_tasks one_regions) one logs first_run (back_replaced 0 logs one tree one_ends one_level split.first_forked split.first_tasks one_regions) pair p
+      back (inr p) = no_pair_lost (Back k logs two tree two_ends two_level split.second_forked split.second_tasks two_regions) two logs second_run (back_replaced k logs two tree two_ends two_level split.second_forked split.second_tasks two_regions) pair p

@@ -15,7 +15,8 @@ use Rattle.writer_laws.specs.StandIns.{Covers, HasStandIn, IsReplaced}
 use Rattle.writer_laws.specs.Values.{IsSameButValue, AreSameButValues, DifferInValues}
 use Rattle.writer_laws.proofs.Forks.{barrier_step}
 use Rattle.writer_laws.proofs.Unordered.{places_carry}
-use Rattle.writer_laws.proofs.KeptRun.{NoEnd, ends_later, ends_alike}
+use Rattle.writer_laws.proofs.Ends.{NoEnd, ends_later}
+use Rattle.writer_laws.proofs.KeptRun.{ends_alike}
 use Rattle.writer_laws.proofs.Replaced.{race_by, no_pair_lost}
 
 same_back : (r s : Record) → IsSameButValue r s → IsSameButValue s r

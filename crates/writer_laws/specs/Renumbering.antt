@@ -1,9 +1,10 @@
 -- A run whose tasks are those of another one under other paths: regions are numbered anew, and a task may be a later part of another one.
-use Rattle.std.specs.Prelude.{◌≡◌, ℕ, ◌+◌, List, [], Some, slice_get}
+use Rattle.std.specs.Prelude.{◌≡◌, ℕ, ◌+◌, List, [], ◌∷◌, ◌++◌, Some, slice_get}
 use Rattle.sw_base.specs.declared.path.Step.{Step}
 use Rattle.race_model.specs.Listing.{lane_of}
 use Rattle.race_model.specs.Trace.{Logs, Node, IsThere, regions_before, barriers_before}
 use Rattle.race_model.specs.Order.{IsLane}
+use Rattle.race_model.specs.ForkJoin.{IsTask, WasForked}
 use Rattle.writer_laws.specs.Places.{Fork, forks}
 
 -- which number a region of the other run had in this one: of which task, and its number there
@@ -15,6 +16,10 @@ pub data IsFrom (number : Numbers) : List Step → List Step → Type 0 where
   root : (path other : List Step) → path ≡ [] → other ≡ [] → IsFrom number path other
   lane : (path other above beside : List Step) (region lane span : ℕ) → IsFrom number above beside
       → path ≡ lane_of above (number beside region) lane span → other ≡ lane_of beside region lane span → IsFrom number path other
+
+-- there are no logs but the root's and those of lanes that were forked
+abbrev pub AreForked : Logs → Type 0
+AreForked logs = (path : List Step) (step : Step) → IsTask logs (path ++ step ∷ []) → WasForked logs path step
 
 -- v, in the other run, is in the task that was that of x, or in a part of it, which begins after so many barriers
 pub record ComesFrom (number : Numbers) (offset : List Step → ℕ) (logs others : Logs) (x v : Node) : Type 0 where

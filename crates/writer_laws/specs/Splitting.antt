@@ -4,8 +4,9 @@ use Rattle.sw_base.specs.declared.path.Step.{Step}
 use Rattle.log_format.specs.declared.record.Record.{Record}
 use Rattle.log_format.specs.declared.record.Kind.TheVariants.{End}
 use Rattle.race_model.specs.Order.{IsLane}
+use Rattle.race_model.specs.ForkJoin.{IsTask}
 use Rattle.race_model.specs.Trace.{Logs, Node, region_count}
-use Rattle.writer_laws.specs.Renumbering.{IsFrom}
+use Rattle.writer_laws.specs.Renumbering.{IsFrom, AreForked}
 
 -- the root's regions of a part were so many later
 abbrev pub later_number : ℕ → List Step → ℕ → ℕ
@@ -25,5 +26,8 @@ pub record IsSplit (logs one two : Logs) : Type 0 where
   pub first_root : one [] ≡ before ++ ended ∷ []
   pub second_root : two [] ≡ after
   pub ends : ended.kind ≡ End
+  pub goes_on : IsTask two []
+  pub first_forked : AreForked one
+  pub second_forked : AreForked two
   pub first_tasks : KeepsLogs 0 logs one
   pub second_tasks : KeepsLogs (region_count before) logs two

@@ -62,8 +62,8 @@ pub fn root_is_ordered()
     ensures { (logs : Logs) (x y : Node) → IsForkJoin logs → IsThere logs x → IsThere logs y → x.path ≡ [] → IsUnordered logs x y → ⊥ }
 {}
 
-/// A run may be split between two regions of the root: its race pairs are those of the two parts.
+/// A run may be split between two regions of the root: the parts are fork-join runs, and its race pairs are theirs.
 pub fn run_may_be_split()
-    ensures { (logs one two : Logs) (pair : ℕ × ℕ) → IsForkJoin logs → IsForkJoin one → IsForkJoin two → IsSplit logs one two
-        → IsRacePair logs pair ↔ (IsRacePair one pair ⊎ IsRacePair two pair) }
+    ensures runs { (logs one two : Logs) → IsForkJoin logs → IsSplit logs one two → IsForkJoin one × IsForkJoin two }
+    ensures pairs { (logs one two : Logs) (pair : ℕ × ℕ) → IsForkJoin logs → IsSplit logs one two → IsRacePair logs pair ↔ (IsRacePair one pair ⊎ IsRacePair two pair) }
 {}

@@ -1,5 +1,8 @@
-use Rattle.writer_laws.proofs.Split.{split_pairs}
+use Rattle.writer_laws.proofs.Split.{first_run, second_run, split_pairs}
 use Rattle.writer_laws.proofs.writing.run_may_be_split.Goals as goal
 
 pub returns : goal.returns
-returns c = λ logs one two pair tree one_tree two_tree split. split_pairs logs one two tree one_tree two_tree split pair
+returns c = record {
+  runs = λ logs one two tree split. (first_run logs one two tree split, second_run logs one two tree split);
+  pairs = λ logs one two pair tree split. split_pairs logs one two tree split pair;
+}
