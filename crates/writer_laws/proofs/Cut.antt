@@ -1,55 +1,42 @@
 -- A run with a region of the root cut at a barrier has the same race pairs.
-use Rattle.std.proofs.Common.{◌≡◌, ◌⊎◌, ◌↔◌, ℕ, zero, suc, ◌+◌, ◌<◌, ◌≤◌, false, List, [], ◌∷◌, ◌++◌, length, take, Some, refl, sym, ap, subst, arith, ◌∙◌, inl, inr}
-use Rattle.std.specs.Prelude.{slice_get, Contains, ◌==◌}
+use Rattle.std.proofs.Common.{◌≡◌, ◌⊎◌, ◌↔◌, ℕ, zero, suc, ◌+◌, ◌<◌, ◌≤◌, Bool, true, false, cond, List, [], ◌∷◌, ◌++◌, length, take, Some, refl, sym, ap, subst, arith, ◌∙◌, inl, inr}
+use Rattle.std.specs.Prelude.{slice_get, Contains, All, ◌==◌}
 use Rattle.std.proofs.lemmas.Bool.{cases_lt}
-use Rattle.std.proofs.lemmas.List.{length_push, same_from_push}
+use Rattle.std.proofs.lemmas.List.{length_push, length-append, same_from_push}
 use Rattle.std.proofs.lemmas.Option.{slice_get_within}
 use Rattle.sw_base.specs.declared.path.Step.{Step}
 use Rattle.sw_base.proofs.Lists.{get_right}
 use Rattle.log_format.specs.declared.record.Record.{Record}
 use Rattle.log_format.specs.declared.record.Kind.TheVariants.{Barrier, Region, End}
-use Rattle.race_model.specs.Trace.{Logs, Node, record_at, IsThere, regions_before, barriers_before, region_count}
+use Rattle.race_model.specs.Trace.{Logs, Node, record_at, IsThere, regions_before, barriers_before, is_barrier_kind, region_count, barrier_count}
 use Rattle.race_model.specs.Listing.{lane_of}
 use Rattle.race_model.specs.Order.{IsLane}
 use Rattle.race_model.specs.Race.{IsAccess, IsRacePair, IsUnordered, held_at}
-use Rattle.race_model.specs.ForkJoin.{IsForkJoin, IsTask, WasForked}
+use Rattle.race_model.specs.ForkJoin.{IsForkJoin, IsTask, EndsOnce, WasForked}
 use Rattle.race_model.proofs.TraceLogs.{record_there}
 use Rattle.race_laws.proofs.LabelPlace.{HasLast, has_last}
-use Rattle.counted_order.proofs.Paths.{unordered_parts}
 use Rattle.writer_laws.specs.Places.{Fork, forks}
 use Rattle.writer_laws.specs.Renumbering.{IsFrom, ComesFrom}
 use Rattle.writer_laws.specs.StandIns.{Covers, HasStandIn, IsReplaced}
 use Rattle.writer_laws.specs.Cutting.{undouble, cut_number, cut_offset, IsLaneCut, IsElsewhere, IsCut}
-use Rattle.writer_laws.proofs.Forks.{fork_listed, find_fork}
-use Rattle.writer_laws.proofs.Renumbered.{carried, carried_back}
+use Rattle.writer_laws.proofs.Ends.{NoEnd, access_no_end, ends_here, ends_later, ends_after, ends_rest, ends_apart, some_record as some_record_of}
+use Rattle.writer_laws.proofs.Forks.{fork_listed, find_fork, barrier_step}
+use Rattle.writer_laws.proofs.Renumbered.{was_region, was_lane, carried, carried_back}
 use Rattle.writer_laws.proofs.Replaced.{no_pair_lost}
-use Rattle.writer_laws.proofs.CutForks.{get_either, doubled_get, undouble_early, undouble_late}
+use Rattle.writer_laws.proofs.Unordered.{root_ordered}
+use Rattle.writer_laws.proofs.CutForks.{barriers_both, get_either, doubled_get, undouble_early, undouble_late}
 use Rattle.writer_laws.proofs.CutRecords.{IsMoved, not_moved, early_moved, late_moved}
 use Rattle.writer_laws.proofs.CutTasks as tasks
 
--- all records of the root are ordered with everything
-pub root_ordered : (logs : Logs) (x y : Node) → IsForkJoin logs → IsThere logs x → IsThere logs y → IsUnordered logs x y → x.path ≡ [] → ⊥
-root_ordered logs x y tree x_there y_there unordered at_root =
-    let p = unordered_parts logs x y tree x_there y_there unordered in
-    none p.level p.parts.step (subst (λ (path : List Step). slice_get path p.level ≡ Some p.parts.step) at_root p.parts.mine)
-  where
-    none : (n : ℕ) (step : Step) → slice_get [] n ≡ Some step → ⊥
-    none n step found = cc
-
 covers_itself : (r : Record) → Covers r r
 covers_itself r = record { same_line = refl; bytes = λ byte has. has; kind = inl refl }
-
-access_no_end : (r : Record) → IsAccess r → r.kind ≡ End → ⊥
-access_no_end r (inl read) ends = cc
-access_no_end r (inr (inl write)) ends = cc
-access_no_end r (inr (inr update)) ends = cc
 
 access_no_barrier : (r : Record) → IsAccess r → r.kind ≡ Barrier → ⊥
 access_no_barrier r (inl read) meets = cc
 access_no_barrier r (inr (inl write)) meets = cc
 access_no_barrier r (inr (inr update)) meets = cc
 
-module _ (k c span : ℕ) (logs others : Logs) (cut : IsCut k c span logs others) (tree : IsForkJoin logs) (other_tree : IsForkJoin others) where
+module _ (k c span : ℕ) (logs others : Logs) (cut : IsCut k c span logs others) (tree : IsForkJoin logs) where
   abbrev Comes : Node → Node → Type 0
   Comes x v = ComesFrom (cut_number k others) (cut_offset k c) logs others x v
 
@@ -81,6 +68,226 @@ module _ (k c span : ℕ) (logs others : Logs) (cut : IsCut k c span logs others
             from = IsFrom.lane (lane_of o.path (cut_number k others l.prefix l.last.region) l.last.lane l.last.span) other o.path l.prefix l.last.region l.last.lane l.last.span o.from refl l.parts;
           }
 
+  -- the cut run is a fork-join run again
+  origin : (other : List Step) → HasOrigin other
+  origin other = origins (suc (length other)) other (omega arith)
+
+  begun : (n : ℕ) → n < span → IsTask logs (lane_of [] k n span)
+  begun n within =
+      let l = cut.lanes n within in
+      let long : length (logs (lane_of [] k n span)) ≡ length l.first + length (l.barrier ∷ others (lane_of [] (suc k) n span)) = ap length l.whole_is ∙ length-append l.first (l.barrier ∷ others (lane_of [] (suc k) n span)) in
+      omega arith
+
+  not_ended : (r : Record) → (r.kind ≡ Barrier) ⊎ (r.kind ≡ Region) → NoEnd r
+  not_ended r (inl meets) ends = cc
+  not_ended r (inr forks) ends = cc
+
+  -- a log that begins with another record goes on
+  goes_on : (r : Record) (records : List Record) → NoEnd r → EndsOnce (r ∷ records) → EndsOnce records
+  goes_on r [] no_end e = absurd (no_end (at e.prefix refl))
+    where
+      at : (prefix : List Record) → e.prefix ≡ prefix → r.kind ≡ End
+      at [] is =
+          let parts : r ∷ [] ≡ e.last ∷ [] = e.parts ∙ ap (λ (l : List Record). l ++ e.last ∷ []) is in
+          let same : r ≡ e.last = cc in
+          ap (λ (t : Record). t.kind) same ∙ e.ends
+      at (p ∷ prefix) is =
+          let parts : r ∷ [] ≡ p ∷ (prefix ++ e.last ∷ []) = e.parts ∙ ap (λ (l : List Record). l ++ e.last ∷ []) is in
+          let none : length (r ∷ []) ≡ length (p ∷ (prefix ++ e.last ∷ [])) = ap length parts in
+          let long = length_push prefix e.last in
+          absurd (omega arith)
+  goes_on r (s ∷ records) no_end e = (ends_rest r (s ∷ records) e (omega arith)).1
+
+  lane_parts : (n : ℕ) (within : n < span) → All NoEnd ((cut.lanes n within).first) × EndsOnce (others (lane_of [] (suc k) n span))
+  lane_parts n within =
+      let l = cut.lanes n within in
+      let apart = ends_apart l.first (l.barrier ∷ others (lane_of [] (suc k) n span)) (subst EndsOnce l.whole_is (tree.ends.ended (lane_of [] k n span) (begun n within))) (omega arith) in
+      (apart.0, goes_on l.barrier (others (lane_of [] (suc k) n span)) (not_ended l.barrier (inl l.at_barrier)) apart.1)
+
+  early_ends : (n : ℕ) → n < span → EndsOnce (others (lane_of [] k n span))
+  early_ends n within =
+      let l = cut.lanes n within in
+      subst EndsOnce (sym l.early_is) (ends_after l.first (l.ended ∷ []) (lane_parts n within).0 (ends_here l.ended l.at_end))
+
+  root_ends : EndsOnce (others [])
+  root_ends =
+      let apart = ends_apart cut.before (cut.region ∷ cut.after) (subst EndsOnce cut.root (tree.ends.ended [] tree.tasks.root)) (omega arith) in
+      let rest = goes_on cut.region cut.after (not_ended cut.region (inr cut.forks)) apart.1 in
+      subst EndsOnce (sym cut.new_root) (ends_after cut.before (cut.region ∷ cut.again ∷ cut.after) apart.0
+      (ends_later cut.region (cut.again ∷ cut.after) (not_ended cut.region (inr cut.forks)) (ends_later cut.again cut.after (not_ended cut.again (inr cut.forks_again)) rest)))
+
+  ended_there : (other : List Step) → IsTask others other → EndsOnce (others other)
+  ended_there other task = by (origin other)
+    where
+      by : HasOrigin other → EndsOnce (others other)
+      by o = at (tasks.classify k c span logs others cut o.path other o.from task)
+        where
+          at : tasks.Where k c span logs others cut o.path other → EndsOnce (others other)
+          at (tasks.Where.root p e) = subst (λ (w : List Step). EndsOnce (others w)) (sym e) root_ends
+          at (tasks.Where.early n within p e) = subst (λ (w : List Step). EndsOnce (others w)) (sym e) (early_ends n within)
+          at (tasks.Where.late n within p e) = subst (λ (w : List Step). EndsOnce (others w)) (sym e) (lane_parts n within).1
+          at (tasks.Where.elsewhere is number offset) = subst EndsOnce (sym is) (tree.ends.ended o.path (subst (λ (records : List Record). 0 < length records) is task))
+
+  -- which region of the cut run a fork is
+  data ForkIs (fork : Node) : Type 0 where
+    first_part : fork.path ≡ [] → regions_before others fork ≡ k → ForkIs fork
+    second_part : fork.path ≡ [] → regions_before others fork ≡ suc k → ForkIs fork
+    unchanged : ((n s : ℕ) (child : List Step) → IsLane others fork n s child → IsElsewhere k span child) → ForkIs fork
+
+  fork_is : (fork : Node) → ForkIs fork
+  fork_is fork = at fork.path refl
+    where
+      at : (path : List Step) → fork.path ≡ path → ForkIs fork
+      at [] root = by (regions_before others fork == k) (regions_before others fork == suc k) refl refl
+        where
+          by : (p q : Bool) → (regions_before others fork == k) ≡ p → (regions_before others fork == suc k) ≡ q → ForkIs fork
+          by true q is other = ForkIs.first_part root (tasks.same_number (regions_before others fork) k is)
+          by false true is other = ForkIs.second_part root (tasks.same_number (regions_before others fork) (suc k) other)
+          by false false is other = ForkIs.unchanged (λ n s child lane.
+              let child_is : child ≡ lane_of [] (regions_before others fork) n s = lane.child ∙ ap (λ (w : List Step). lane_of w (regions_before others fork) n s) root in
+              record {
+                not_early = λ m within e. tasks.other_number (regions_before others fork) k is (tasks.differ_region k c span logs others cut (regions_before others fork) k n m s span (sym child_is ∙ e));
+                not_late = λ m within e. tasks.other_number (regions_before others fork) (suc k) other (tasks.differ_region k c span logs others cut (regions_before others fork) (suc k) n m s span (sym child_is ∙ e));
+              })
+      at (t ∷ rest) deep = ForkIs.unchanged (λ n s child lane.
+          let long : length child ≡ length (t ∷ rest) + 1 = ap length lane.child ∙ (length_push fork.path (record { region = regions_before others fork; lane = n; span = s }) ∙ ap (λ (w : List Step). length w + 1) deep) in
+          record {
+            not_early = λ m within e. let lengths : length child ≡ 1 = ap length e in omega arith;
+            not_late = λ m within e. let lengths : length child ≡ 1 = ap length e in omega arith;
+          })
+
+  -- a lane of a region that isn't cut has the log that it had
+  record WasLane (region : Node) (n s : ℕ) (child : List Step) : Type 0 where
+    old : List Step
+    lane : IsLane logs region n s old
+    same : others child ≡ logs old
+
+  record WasTeam (fork : Node) (s : ℕ) : Type 0 where
+    region : Node
+    each : (n : ℕ) (child : List Step) → IsLane others fork n s child → WasLane region n s child
+
+  was_team : (fork : Node) (n s : ℕ) (child : List Step) → IsLane others fork n s child → ((n s : ℕ) (child : List Step) → IsLane others fork n s child → IsElsewhere k span child) → WasTeam fork s
+  was_team fork n s child lane elsewhere = by (origin fork.path)
+    where
+      by : HasOrigin fork.path → WasTeam fork s
+      by o =
+          let was = was_region (cut_number k others) (cut_offset k c) logs others (tasks.were_forks k c span logs others cut) (tasks.keeps_teams k c span logs others cut) o.path child fork n s o.from lane in
+          record {
+            region = node o.path was.index;
+            each = λ m beside there. record {
+              old = lane_of o.path (cut_number k others fork.path (regions_before others fork)) m s;
+              lane = was_lane (cut_number k others) (cut_offset k c) logs others (tasks.were_forks k c span logs others cut) (tasks.keeps_teams k c span logs others cut)
+                  o.path beside (lane_of o.path (cut_number k others fork.path (regions_before others fork)) m s) fork m s was there refl;
+              same = cut.rest (lane_of o.path (cut_number k others fork.path (regions_before others fork)) m s) beside fork m s
+                  (IsFrom.lane (lane_of o.path (cut_number k others fork.path (regions_before others fork)) m s) beside o.path fork.path (regions_before others fork) m s o.from refl there.child)
+                  there (elsewhere m s beside there);
+            };
+          }
+
+  early_is : (fork : Node) (n s : ℕ) (child : List Step) → IsLane others fork n s child → fork.path ≡ [] → regions_before others fork ≡ k → (n < span) × (child ≡ lane_of [] k n span)
+  early_is fork n s child lane root is =
+      let real = tasks.real_lane k c span logs others cut fork n s child lane root (inl is) in
+      (real.within, lane.child ∙ λ i. lane_of (root i) (is i) n (real.same_span i))
+
+  late_is : (fork : Node) (n s : ℕ) (child : List Step) → IsLane others fork n s child → fork.path ≡ [] → regions_before others fork ≡ suc k → (n < span) × (child ≡ lane_of [] (suc k) n span)
+  late_is fork n s child lane root is =
+      let real = tasks.real_lane k c span logs others cut fork n s child lane root (inr is) in
+      (real.within, lane.child ∙ λ i. lane_of (root i) (is i) n (real.same_span i))
+
+  lane_there : (fork : Node) (n s : ℕ) (child : List Step) → IsLane others fork n s child → IsTask others child
+  lane_there fork n s child lane = at (fork_is fork)
+    where
+      at : ForkIs fork → IsTask others child
+      at (ForkIs.first_part root is) =
+          let e = early_is fork n s child lane root is in
+          some_record_of (others child) (subst (λ (w : List Step). EndsOnce (others w)) (sym e.1) (early_ends n e.0))
+      at (ForkIs.second_part root is) =
+          let e = late_is fork n s child lane root is in
+          some_record_of (others child) (subst (λ (w : List Step). EndsOnce (others w)) (sym e.1) (lane_parts n e.0).1)
+      at (ForkIs.unchanged elsewhere) =
+          let team = was_team fork n s child lane elsewhere in
+          let was = team.each n child lane in
+          subst (λ (records : List Record). 0 < length records) (sym was.same) (tree.ends.lanes team.region n s was.old was.lane)
+
+  -- the lanes of the region before the cut
+  record HasOldRegion : Type 0 where
+    fork : Node
+    lane : (n : ℕ) → n < span → IsLane logs fork n span (lane_of [] k n span)
+
+  old_region : HasOldRegion
+  old_region =
+      let long = tasks.fore_length k c span logs others cut in
+      let place : length (tasks.fore k c span logs others cut) + 0 ≡ k = omega arith in
+      let here : slice_get (tasks.fore k c span logs others cut ++ tasks.doubled k c span logs others cut ∷ tasks.hind k c span logs others cut) k ≡ Some (tasks.doubled k c span logs others cut) =
+      subst (λ (i : ℕ). slice_get (tasks.fore k c span logs others cut ++ tasks.doubled k c span logs others cut ∷ tasks.hind k c span logs others cut) i ≡ Some (tasks.doubled k c span logs others cut)) place
+      (get_right (tasks.fore k c span logs others cut) (tasks.doubled k c span logs others cut ∷ tasks.hind k c span logs others cut) 0) in
+      let h = find_fork 0 (logs []) k (tasks.doubled k c span logs others cut) (subst (λ (l : List Fork). slice_get l k ≡ Some (tasks.doubled k c span logs others cut)) (sym (tasks.root_forks k c span logs others cut)) here) in
+      record {
+        fork = node [] h.index;
+        lane = λ n within. record { event = h.event; found = h.found; region = h.region; spans = h.spans; in_span = within; child = ap (λ (q : ℕ). lane_of [] q n span) (sym h.number_is) };
+      }
+
+  early_level : (n : ℕ) → n < span → barrier_count (others (lane_of [] k n span)) ≡ c
+  early_level n within =
+      let l = cut.lanes n within in
+      let both : barrier_count (others (lane_of [] k n span)) ≡ barrier_count l.first + barrier_count (l.ended ∷ []) = ap barrier_count l.early_is ∙ barriers_both l.first (l.ended ∷ []) in
+      let none : barrier_count (l.ended ∷ []) ≡ 0 = barrier_step l.ended [] ∙ rw l.at_end refl in
+      let passed = l.passed in
+      omega arith
+
+  late_level : (n : ℕ) → n < span → barrier_count (logs (lane_of [] k n span)) ≡ c + (1 + barrier_count (others (lane_of [] (suc k) n span)))
+  late_level n within =
+      let l = cut.lanes n within in
+      let both : barrier_count (logs (lane_of [] k n span)) ≡ barrier_count l.first + barrier_count (l.barrier ∷ others (lane_of [] (suc k) n span)) = ap barrier_count l.whole_is ∙ barriers_both l.first (l.barrier ∷ others (lane_of [] (suc k) n span)) in
+      let one : barrier_count (l.barrier ∷ others (lane_of [] (suc k) n span)) ≡ 1 + barrier_count (others (lane_of [] (suc k) n span)) = barrier_step l.barrier (others (lane_of [] (suc k) n span)) ∙ rw l.at_barrier refl in
+      let passed = l.passed in
+      omega arith
+
+  level_there : (fork : Node) (n m s : ℕ) (path beside : List Step) → IsLane others fork n s path → IsLane others fork m s beside → barrier_count (others path) ≡ barrier_count (others beside)
+  level_there fork n m s path beside mine yours = at (fork_is fork)
+    where
+      at : ForkIs fork → barrier_count (others path) ≡ barrier_count (others beside)
+      at (ForkIs.first_part root is) =
+          let e = early_is fork n s path mine root is in
+          let f = early_is fork m s beside yours root is in
+          ap (λ (w : List Step). barrier_count (others w)) e.1 ∙ (early_level n e.0 ∙ (sym (early_level m f.0) ∙ ap (λ (w : List Step). barrier_count (others w)) (sym f.1)))
+      at (ForkIs.second_part root is) =
+          let e = late_is fork n s path mine root is in
+          let f = late_is fork m s beside yours root is in
+          let old = old_region in
+          let same = tree.ends.same_barriers old.fork n m span (lane_of [] k n span) (lane_of [] k m span) (old.lane n e.0) (old.lane m f.0) in
+          let one = late_level n e.0 in
+          let two = late_level m f.0 in
+          ap (λ (w : List Step). barrier_count (others w)) e.1
+          ∙ ((let level : barrier_count (others (lane_of [] (suc k) n span)) ≡ barrier_count (others (lane_of [] (suc k) m span)) = omega arith in level) ∙ ap (λ (w : List Step). barrier_count (others w)) (sym f.1))
+      at (ForkIs.unchanged elsewhere) =
+          let team = was_team fork n s path mine elsewhere in
+          let one = team.each n path mine in
+          let two = team.each m beside yours in
+          ap barrier_count one.same ∙ (tree.ends.same_barriers team.region n m s one.old two.old one.lane two.lane ∙ sym (ap barrier_count two.same))
+
+  region_idle : (r : Record) (records : List Record) → r.kind ≡ Region → barrier_count (r ∷ records) ≡ barrier_count records
+  region_idle r records forks =
+      let none : cond {A = ℕ} (is_barrier_kind r.kind) 1 0 ≡ 0 = rw forks refl in
+      let step = barrier_step r records in
+      omega arith
+
+  root_level : barrier_count (others []) ≡ 0
+  root_level =
+      let none = tree.ends.no_root_barrier in
+      let both : barrier_count (logs []) ≡ barrier_count cut.before + barrier_count (cut.region ∷ cut.after) = ap barrier_count cut.root ∙ barriers_both cut.before (cut.region ∷ cut.after) in
+      let now : barrier_count (others []) ≡ barrier_count cut.before + barrier_count (cut.region ∷ cut.again ∷ cut.after) = ap barrier_count cut.new_root ∙ barriers_both cut.before (cut.region ∷ cut.again ∷ cut.after) in
+      let one : barrier_count (cut.region ∷ cut.after) ≡ barrier_count cut.after = region_idle cut.region cut.after cut.forks in
+      let two : barrier_count (cut.region ∷ cut.again ∷ cut.after) ≡ barrier_count (cut.again ∷ cut.after) = region_idle cut.region (cut.again ∷ cut.after) cut.forks in
+      let three : barrier_count (cut.again ∷ cut.after) ≡ barrier_count cut.after = region_idle cut.again cut.after cut.forks_again in
+      omega arith
+
+  pub other_tree : IsForkJoin others
+  other_tree = record {
+    tasks = record { root = some_record_of (others []) root_ends; forked = cut.only };
+    ends = record { ended = ended_there; lanes = lane_there; same_barriers = level_there; no_root_barrier = root_level };
+  }
+
   -- a record that was moved stands for itself, both ways
   comes_by : (path other : List Step) (barriers regions i j : ℕ) (r : Record) → IsFrom (cut_number k others) path other → cut_offset k c other ≡ barriers
       → IsMoved barriers regions (logs path) (others other) i j r → Comes (node path i) (node other j)
@@ -111,7 +318,7 @@ module _ (k c span : ℕ) (logs others : Logs) (cut : IsCut k c span logs others
   back_stands v r found access not_root = by (origins (suc (length v.path)) v.path (omega arith))
     where
       by : HasOrigin v.path → HasStandIn Back others logs v r
-      by o = at (tasks.classify k c span logs others cut other_tree o.path v.path o.from (task_of v (record_there others v r found)))
+      by o = at (tasks.classify k c span logs others cut o.path v.path o.from (task_of v (record_there others v r found)))
         where
           at : tasks.Where k c span logs others cut o.path v.path → HasStandIn Back others logs v r
           at (tasks.Where.root p e) = absurd (not_root e)
@@ -150,7 +357,7 @@ module _ (k c span : ℕ) (logs others : Logs) (cut : IsCut k c span logs others
 
   pub back_replaced : IsReplaced Back others logs
   back_replaced = record {
-    carries = carried_back (cut_number k others) (cut_offset k c) logs others (tasks.were_forks k c span logs others cut other_tree) (tasks.keeps_teams k c span logs others cut other_tree);
+    carries = carried_back (cut_number k others) (cut_offset k c) logs others (tasks.were_forks k c span logs others cut) (tasks.keeps_teams k c span logs others cut);
     stand_ins = λ v w r found access w_there unordered. back_stands v r found access (root_ordered others v w other_tree (record_there others v r found) w_there unordered);
   }
 
@@ -224,8 +431,8 @@ module _ (k c span : ℕ) (logs others : Logs) (cut : IsCut k c span logs others
       (IsFrom.lane x.path (lane_of [] new n s) [] [] new n s (IsFrom.root [] [] refl refl) (parts ∙ ap (λ (q : ℕ). lane_of [] q n s) (sym number)) refl)
       region.lane
       (record {
-        not_early = λ m within e. not_k (tasks.differ_region k c span logs others cut other_tree new k n m s span e);
-        not_late = λ m within e. not_next (tasks.differ_region k c span logs others cut other_tree new (suc k) n m s span e);
+        not_early = λ m within e. not_k (tasks.differ_region k c span logs others cut new k n m s span e);
+        not_late = λ m within e. not_next (tasks.differ_region k c span logs others cut new (suc k) n m s span e);
       })
       (rw (not_equal new (suc k) not_next) refl)
       (λ m. rw (not_equal new (suc k) not_next) refl)
@@ -335,7 +542,7 @@ module _ (k c span : ℕ) (logs others : Logs) (cut : IsCut k c span logs others
           (rec f forked.lane.event shorter deep forked.lane.found (region_no_barrier forked.lane.event forked.lane.region))
         where
           long_enough : (p q : List Step) (step : Step) → IsFrom (cut_number k others) p q → (p ≡ [] → ⊥) → 2 ≤ length (q ++ step ∷ [])
-          long_enough p [] step from deep = absurd (deep (tasks.from_root k c span logs others cut other_tree p from))
+          long_enough p [] step from deep = absurd (deep (tasks.from_root k c span logs others cut p from))
           long_enough p (u ∷ q) step from deep = let long : length ((u ∷ q) ++ step ∷ []) ≡ length (u ∷ q) + 1 = length_push (u ∷ q) step in omega arith
 
           above : (f : Node) (e : Record) (n s : ℕ) → (f.path ≡ [] → ⊥) → e.kind ≡ Region → e.value ≡ s → n < s → x.path ≡ lane_of f.path (regions_before logs f) n s → HasPart f e → HasPart x r
@@ -369,7 +576,7 @@ module _ (k c span : ℕ) (logs others : Logs) (cut : IsCut k c span logs others
 
   pub replaced : IsReplaced Comes logs others
   replaced = record {
-    carries = carried (cut_number k others) (cut_offset k c) logs others (tasks.were_forks k c span logs others cut other_tree) (tasks.keeps_teams k c span logs others cut other_tree) other_tree;
+    carries = carried (cut_number k others) (cut_offset k c) logs others (tasks.were_forks k c span logs others cut) (tasks.keeps_teams k c span logs others cut) other_tree;
     stand_ins = λ x y r found access y_there unordered. stands x r found access (root_ordered logs x y tree (record_there logs x r found) y_there unordered);
   }
 

@@ -10,10 +10,11 @@ use Rattle.race_model.specs.ForkJoin.{IsForkJoin}
 use Rattle.log_format.specs.declared.record.Kind.TheVariants.{Read, Write}
 use Rattle.writer_laws.specs.Places.{forks, ForkAlike, IsAtPlace}
 use Rattle.writer_laws.specs.StandIns.{Covers, HasStandIn, IsReplaced}
-use Rattle.writer_laws.specs.Dropping.{MayBeDropped, Drops}
+use Rattle.writer_laws.specs.Dropping.{MayBeDropped, Drops, DropsAtRoot}
+use Rattle.race_model.proofs.TraceLogs.{record_there}
 use Rattle.writer_laws.proofs.Kept.{IsPlaced, LeavesAccesses, Stays, stays, comes, forks_kept}
 use Rattle.writer_laws.proofs.Replaced.{no_pair_lost}
-use Rattle.writer_laws.proofs.Unordered.{alike_back, places_carry}
+use Rattle.writer_laws.proofs.Unordered.{alike_back, places_carry, root_ordered}
 
 covers_itself : (r : Record) → Covers r r
 covers_itself r = record { same_line = refl; bytes = λ byte has. has; kind = inl refl }
@@ -95,3 +96,11 @@ module _ (keep : Node → Bool) (logs others : Logs) (drops : Drops keep logs ot
 
   pub drops_keep_pairs : IsForkJoin logs → IsForkJoin others → (pair : ℕ × ℕ) → IsRacePair logs pair ↔ IsRacePair others pair
   drops_keep_pairs tree other_tree pair = (no_pair_lost (IsAtPlace logs others) logs others tree fewer pair, no_pair_lost (IsAtPlace others logs) others logs other_tree whole pair)
+
+-- all records of the root are ordered with everything, so that its accesses may be left out
+pub root_drops : (keep : Node → Bool) (logs others : Logs) → IsForkJoin logs → DropsAtRoot keep logs others → Drops keep logs others
+root_drops keep logs others tree d = record {
+  kept = d.kept;
+  accesses = d.accesses;
+  each = λ x r found out. MayBeDropped.ordered (λ y y_there unordered. root_ordered logs x y tree (record_there logs x r found) y_there unordered (d.at_root x out));
+}

@@ -36,7 +36,7 @@ ends_after [] records none e = e
 ends_after (r ∷ first) records none e = ends_later r (first ++ records) (All-head NoEnd r first none) (ends_after first records (All-tail NoEnd r first none) e)
 
 -- the first record of a log that goes on, and the rest
-ends_rest : (r : Record) (records : List Record) → EndsOnce (r ∷ records) → 0 < length records → NoEnd r × EndsOnce records
+pub ends_rest : (r : Record) (records : List Record) → EndsOnce (r ∷ records) → 0 < length records → NoEnd r × EndsOnce records
 ends_rest r records e some = at e.prefix refl
   where
     at : (prefix : List Record) → e.prefix ≡ prefix → NoEnd r × EndsOnce records

@@ -1,6 +1,5 @@
 pub mod Carried
 pub mod Cut
-pub mod CutCase
 pub mod CutForks
 pub mod CutRecords
 pub mod CutTasks
@@ -9,9 +8,11 @@ pub mod Ends
 pub mod Forks
 pub mod Guarding
 pub mod Kept
+pub mod KeptRules
 pub mod KeptRun
 pub mod Renumbered
 pub mod Replaced
 pub mod Split
 pub mod Unordered
 pub mod Valued
+pub mod Written

@@ -25,7 +25,7 @@ use Rattle.writer_laws.proofs.Forks.{fork_listed, find_fork, barrier_step}
 use Rattle.writer_laws.proofs.Renumbered.{was_region, was_lane, carried, carried_back}
 use Rattle.writer_laws.proofs.Replaced.{pair_by, no_pair_lost}
 use Rattle.writer_laws.proofs.CutForks.{barriers_both, forks_both, forks_length, raised}
-use Rattle.writer_laws.proofs.Cut.{root_ordered}
+use Rattle.writer_laws.proofs.Unordered.{root_ordered}
 
 covers_itself : (r : Record) → Covers r r
 covers_itself r = record { same_line = refl; bytes = λ byte has. has; kind = inl refl }

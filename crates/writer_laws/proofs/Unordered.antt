@@ -1,12 +1,15 @@
 -- Where tasks fork alike, records at the same places answer to one another.
-use Rattle.std.proofs.Common.{◌≡◌, ℕ, ◌+◌, List, Some, refl, sym, ap, subst, arith, ◌∙◌}
+use Rattle.std.proofs.Common.{◌≡◌, ℕ, ◌+◌, List, [], Some, refl, sym, ap, subst, arith, ◌∙◌}
 use Rattle.std.specs.Prelude.{slice_get}
 use Rattle.sw_base.specs.declared.path.Step.{Step}
 use Rattle.log_format.specs.declared.record.Record.{Record}
 use Rattle.log_format.specs.declared.record.Kind.TheVariants.{Region}
-use Rattle.race_model.specs.Trace.{Logs, Node, regions_before, barriers_before}
+use Rattle.race_model.specs.Trace.{Logs, Node, IsThere, regions_before, barriers_before}
 use Rattle.race_model.specs.Listing.{lane_of}
 use Rattle.race_model.specs.Order.{IsLane}
+use Rattle.race_model.specs.Race.{IsUnordered}
+use Rattle.race_model.specs.ForkJoin.{IsForkJoin}
+use Rattle.counted_order.proofs.Paths.{unordered_parts}
 use Rattle.writer_laws.specs.Carrying.{Carries}
 use Rattle.writer_laws.specs.Places.{Fork, ForkAlike, IsAtPlace}
 use Rattle.writer_laws.proofs.Forks.{fork_listed, find_fork}
@@ -73,3 +76,12 @@ alike_back logs others alike path = sym (alike path)
 
 pub place_back : (logs others : Logs) (x v : Node) → IsAtPlace logs others x v → IsAtPlace others logs v x
 place_back logs others x v place = record { same_task = sym place.same_task; as_many = sym place.as_many }
+
+-- all records of the root are ordered with everything
+pub root_ordered : (logs : Logs) (x y : Node) → IsForkJoin logs → IsThere logs x → IsThere logs y → IsUnordered logs x y → x.path ≡ [] → ⊥
+root_ordered logs x y tree x_there y_there unordered at_root =
+    let p = unordered_parts logs x y tree x_there y_there unordered in
+    none p.level p.parts.step (subst (λ (path : List Step). slice_get path p.level ≡ Some p.parts.step) at_root p.parts.mine)
+  where
+    none : (n : ℕ) (step : Step) → slice_get [] n ≡ Some step → ⊥
+    none n step found = cc

@@ -7,7 +7,7 @@ use Rattle.race_model.specs.Listing.{lane_of}
 use Rattle.race_model.specs.Race.{held_after}
 use Rattle.race_model.specs.Order.{IsLane}
 use Rattle.race_model.specs.Trace.{Logs, Node, region_count, barrier_count}
-use Rattle.writer_laws.specs.Renumbering.{IsFrom}
+use Rattle.writer_laws.specs.Renumbering.{IsFrom, AreForked}
 
 -- the number of a region of the root before the k-th was doubled
 abbrev pub undouble : ℕ → ℕ → ℕ
@@ -58,5 +58,6 @@ pub record IsCut (k barriers span : ℕ) (logs others : Logs) : Type 0 where
   pub spans : region.value ≡ span
   pub forks_again : again.kind ≡ Region
   pub spans_again : again.value ≡ span
+  pub only : AreForked others
   pub lanes : (n : ℕ) → n < span → IsLaneCut barriers (logs (lane_of [] k n span)) (others (lane_of [] k n span)) (others (lane_of [] (suc k) n span))
   pub rest : (path other : List Step) (fork : Node) (n s : ℕ) → IsFrom (cut_number k others) path other → IsLane others fork n s other → IsElsewhere k span other → others other ≡ logs path

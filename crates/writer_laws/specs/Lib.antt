@@ -4,6 +4,8 @@ pub mod Dropping
 pub mod Guards
 pub mod Places
 pub mod Renumbering
+pub mod Rules
 pub mod Splitting
 pub mod StandIns
 pub mod Values
+pub mod Writing

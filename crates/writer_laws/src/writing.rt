@@ -1,4 +1,4 @@
-ghost use Rattle.std.specs.Prelude.{◌≡◌, ◌↔◌, ◌⊎◌, ℕ, Bool, [], Some};
+ghost use Rattle.std.specs.Prelude.{◌≡◌, ◌↔◌, ◌⊎◌, ℕ, Bool, [], List, All, Some};
 ghost use Rattle.log_format.specs.declared.record.Record.{Record};
 ghost use Rattle.race_model.specs.ForkJoin.{IsForkJoin};
 ghost use Rattle.race_model.specs.Race.{IsUnordered, IsRace, IsRacePair};
@@ -10,6 +10,7 @@ ghost use Rattle.writer_laws.specs.Guards.{DifferInLocks};
 ghost use Rattle.writer_laws.specs.Splitting.{IsSplit};
 ghost use Rattle.writer_laws.specs.StandIns.{IsReplaced};
 ghost use Rattle.writer_laws.specs.Values.{DifferInValues};
+ghost use Rattle.writer_laws.specs.Writing.{IsWritten, HasPair};
 
 /// Where the tasks of two runs fork the same regions after as many barriers, records are unordered exactly where those at the same places are.
 pub fn unordered_by_places()
@@ -51,9 +52,11 @@ pub fn locks_may_move()
     ensures pairs { (logs others : Logs) (pair : ℕ × ℕ) → IsForkJoin logs → DifferInLocks logs others → IsRacePair logs pair ↔ IsRacePair others pair }
 {}
 
-/// A region of the root may be cut at a barrier into two regions of the root with the same lanes: the race pairs stay the same.
+/// A region of the root may be cut at a barrier into two regions of the root with the same lanes: it is a fork-join run again, with the
+/// same race pairs.
 pub fn region_may_be_cut()
-    ensures { (region barriers span : ℕ) (logs others : Logs) (pair : ℕ × ℕ) → IsForkJoin logs → IsForkJoin others → IsCut region barriers span logs others
+    ensures run { (region barriers span : ℕ) (logs others : Logs) → IsForkJoin logs → IsCut region barriers span logs others → IsForkJoin others }
+    ensures pairs { (region barriers span : ℕ) (logs others : Logs) (pair : ℕ × ℕ) → IsForkJoin logs → IsCut region barriers span logs others
         → IsRacePair logs pair ↔ IsRacePair others pair }
 {}
 
@@ -66,4 +69,10 @@ pub fn root_is_ordered()
 pub fn run_may_be_split()
     ensures runs { (logs one two : Logs) → IsForkJoin logs → IsSplit logs one two → IsForkJoin one × IsForkJoin two }
     ensures pairs { (logs one two : Logs) (pair : ℕ × ℕ) → IsForkJoin logs → IsSplit logs one two → IsRacePair logs pair ↔ (IsRacePair one pair ⊎ IsRacePair two pair) }
+{}
+
+/// A recorder may do all this, one step after another: it writes fork-join runs, and the race pairs of the run are theirs.
+pub fn recorders_keep_pairs()
+    ensures runs { (logs : Logs) (parts : List Logs) → IsForkJoin logs → IsWritten logs parts → All IsForkJoin parts }
+    ensures pairs { (logs : Logs) (parts : List Logs) (pair : ℕ × ℕ) → IsForkJoin logs → IsWritten logs parts → IsRacePair logs pair ↔ HasPair parts pair }
 {}

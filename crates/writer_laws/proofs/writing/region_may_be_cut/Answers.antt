@@ -1,5 +1,8 @@
-use Rattle.writer_laws.proofs.Cut.{cut_keeps_pairs}
+use Rattle.writer_laws.proofs.Cut.{cut_keeps_pairs, other_tree}
 use Rattle.writer_laws.proofs.writing.region_may_be_cut.Goals as goal
 
 pub returns : goal.returns
-returns c = λ region barriers span logs others pair tree other_tree cut. cut_keeps_pairs region barriers span logs others cut tree other_tree pair
+returns c = record {
+  run = λ region barriers span logs others tree cut. other_tree region barriers span logs others cut tree;
+  pairs = λ region barriers span logs others pair tree cut. cut_keeps_pairs region barriers span logs others cut tree pair;
+}

@@ -1,4 +1,4 @@
-use Rattle.writer_laws.proofs.Cut.{root_ordered}
+use Rattle.writer_laws.proofs.Unordered.{root_ordered}
 use Rattle.writer_laws.proofs.writing.root_is_ordered.Goals as goal
 
 pub returns : goal.returns
