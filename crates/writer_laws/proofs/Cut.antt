@@ -50,9 +50,9 @@ module _ (k c span : ℕ) (logs others : Logs) (cut : IsCut k c span logs others
   task_of x here = omega arith
 
   -- every path is from one
-  record HasOrigin (other : List Step) : Type 0 where
-    path : List Step
-    from : IsFrom (cut_number k others) path other
+  pub record HasOrigin (other : List Step) : Type 0 where
+    pub path : List Step
+    pub from : IsFrom (cut_number k others) path other
 
   origins : (d : ℕ) (other : List Step) → length other < d → HasOrigin other
   origins zero other less = absurd (omega arith)
@@ -69,7 +69,7 @@ module _ (k c span : ℕ) (logs others : Logs) (cut : IsCut k c span logs others
           }
 
   -- the cut run is a fork-join run again
-  origin : (other : List Step) → HasOrigin other
+  pub origin : (other : List Step) → HasOrigin other
   origin other = origins (suc (length other)) other (omega arith)
 
   begun : (n : ℕ) → n < span → IsTask logs (lane_of [] k n span)

@@ -31,7 +31,7 @@ early_moved first more other i r less found =
     let regions : region_count (take i (first ++ more)) ≡ region_count (take i (first ++ other)) = ap region_count same in
     record { found = get_more first more i r found; there = get_more first other i r found; as_many = omega arith; numbers = omega arith; same_held = ap (held_after []) same }
 
-take_past : (first more : List Record) (b : Record) (j : ℕ) → take (length first + suc j) (first ++ b ∷ more) ≡ first ++ b ∷ take j more
+pub take_past : (first more : List Record) (b : Record) (j : ℕ) → take (length first + suc j) (first ++ b ∷ more) ≡ first ++ b ∷ take j more
 take_past [] more b j =
     let same : suc j ≡ 0 + suc j = omega arith in
     subst (λ (i : ℕ). take i (b ∷ more) ≡ b ∷ take j more) same refl

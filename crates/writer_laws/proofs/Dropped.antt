@@ -20,10 +20,10 @@ covers_itself : (r : Record) → Covers r r
 covers_itself r = record { same_line = refl; bytes = λ byte has. has; kind = inl refl }
 
 module _ (keep : Node → Bool) (logs others : Logs) (drops : Drops keep logs others) where
-  abbrev keeps : List Step → ℕ → Bool
+  abbrev pub keeps : List Step → ℕ → Bool
   keeps path n = keep (record { path = path; index = n })
 
-  leaves : (path : List Step) → LeavesAccesses (keeps path) (logs path)
+  pub leaves : (path : List Step) → LeavesAccesses (keeps path) (logs path)
   leaves path n r found out = drops.accesses (record { path = path; index = n }) r found out
 
   alike : ForkAlike logs others

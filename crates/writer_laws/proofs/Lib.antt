@@ -10,6 +10,7 @@ pub mod Guarding
 pub mod Kept
 pub mod KeptRules
 pub mod KeptRun
+pub mod Nested
 pub mod Renumbered
 pub mod Replaced
 pub mod Split

@@ -64,11 +64,11 @@ module _ (k : ℕ) (logs part : Logs) (tree : IsForkJoin logs) (root_ends : Ends
   deep_number (t ∷ other) r deep = refl
 
   -- a task of the part is the root, or has the log that it had
-  data Where (path other : List Step) : Type 0 where
+  pub data Where (path other : List Step) : Type 0 where
     root : path ≡ [] → other ≡ [] → Where path other
     kept : (other ≡ [] → ⊥) → part other ≡ logs path → Where path other
 
-  classify : (path other : List Step) → IsFrom (later_number k) path other → IsTask part other → Where path other
+  pub classify : (path other : List Step) → IsFrom (later_number k) path other → IsTask part other → Where path other
   classify _ _ (IsFrom.root path other e f) task = Where.root e f
   classify _ _ (IsFrom.lane path other above beside r n s up parts is) task =
       let forked = part_forked beside (record { region = r; lane = n; span = s }) (subst (λ (p : List Step). IsTask part p) is task) in
@@ -121,9 +121,9 @@ module _ (k : ℕ) (logs part : Logs) (tree : IsForkJoin logs) (root_ends : Ends
   }
 
   -- every path is from one
-  record HasOrigin (other : List Step) : Type 0 where
-    path : List Step
-    from : IsFrom (later_number k) path other
+  pub record HasOrigin (other : List Step) : Type 0 where
+    pub path : List Step
+    pub from : IsFrom (later_number k) path other
 
   origins : (d : ℕ) (other : List Step) → length other < d → HasOrigin other
   origins zero other less = absurd (omega arith)
@@ -140,7 +140,7 @@ module _ (k : ℕ) (logs part : Logs) (tree : IsForkJoin logs) (root_ends : Ends
           }
 
   -- a part is a fork-join run again
-  origin : (other : List Step) → HasOrigin other
+  pub origin : (other : List Step) → HasOrigin other
   origin other = origins (suc (length other)) other (omega arith)
 
   ended_there : (other : List Step) → IsTask part other → EndsOnce (part other)
@@ -361,13 +361,13 @@ module _ (logs one two : Logs) (tree : IsForkJoin logs) (split : IsSplit logs on
   two_forks : forks (two []) ≡ forks split.after
   two_forks = ap forks split.second_root
 
-  one_regions : (r : ℕ) (f : Fork) → slice_get (forks (one [])) r ≡ Some f → slice_get (forks (logs [])) (r + 0) ≡ Some f
+  pub one_regions : (r : ℕ) (f : Fork) → slice_get (forks (one [])) r ≡ Some f → slice_get (forks (logs [])) (r + 0) ≡ Some f
   one_regions r f found =
       let place : r ≡ r + 0 = omega arith in
       subst (λ (fs : List Fork). slice_get fs (r + 0) ≡ Some f) (sym root_forks)
       (subst (λ (i : ℕ). slice_get (fore ++ forks split.after) i ≡ Some f) place (get_more fore (forks split.after) r f (subst (λ (fs : List Fork). slice_get fs r ≡ Some f) one_forks found)))
 
-  two_regions : (r : ℕ) (f : Fork) → slice_get (forks (two [])) r ≡ Some f → slice_get (forks (logs [])) (r + k) ≡ Some f
+  pub two_regions : (r : ℕ) (f : Fork) → slice_get (forks (two [])) r ≡ Some f → slice_get (forks (logs [])) (r + k) ≡ Some f
   two_regions r f found =
       let place : length fore + r ≡ r + k = (let long = fore_length in omega arith) in
       subst (λ (fs : List Fork). slice_get fs (r + k) ≡ Some f) (sym root_forks)
@@ -392,23 +392,23 @@ module _ (logs one two : Logs) (tree : IsForkJoin logs) (split : IsSplit logs on
   apart = ends_apart split.before split.after (subst EndsOnce split.root (tree.ends.ended [] tree.tasks.root))
       (subst (λ (records : List Record). 0 < length records) split.second_root split.goes_on)
 
-  one_ends : EndsOnce (one [])
+  pub one_ends : EndsOnce (one [])
   one_ends = subst EndsOnce (sym split.first_root) (ends_after split.before (split.ended ∷ []) apart.0 (ends_here split.ended split.ends))
 
-  two_ends : EndsOnce (two [])
+  pub two_ends : EndsOnce (two [])
   two_ends = subst EndsOnce (sym split.second_root) apart.1
 
   no_barriers : barrier_count split.before + barrier_count split.after ≡ 0
   no_barriers = sym (barriers_both split.before split.after) ∙ (ap barrier_count (sym split.root) ∙ tree.ends.no_root_barrier)
 
-  one_level : barrier_count (one []) ≡ 0
+  pub one_level : barrier_count (one []) ≡ 0
   one_level =
       let both : barrier_count (one []) ≡ barrier_count split.before + barrier_count (split.ended ∷ []) = ap barrier_count split.first_root ∙ barriers_both split.before (split.ended ∷ []) in
       let none : barrier_count (split.ended ∷ []) ≡ 0 = barrier_step split.ended [] ∙ (let end = split.ends in rw end refl) in
       let all = no_barriers in
       omega arith
 
-  two_level : barrier_count (two []) ≡ 0
+  pub two_level : barrier_count (two []) ≡ 0
   two_level = let all = no_barriers in let same : barrier_count (two []) ≡ barrier_count split.after = ap barrier_count split.second_root in omega arith
 
   pub first_run : IsForkJoin one

@@ -22,21 +22,21 @@ use Rattle.writer_laws.proofs.Replaced.{race_by, no_pair_lost}
 same_back : (r s : Record) → IsSameButValue r s → IsSameButValue s r
 same_back r s e = record { kind = sym e.kind; size = sym e.size; line = sym e.line; addr = sym e.addr; span = λ region. sym (e.span (e.kind ∙ region)) }
 
-all_back : (records others : List Record) → AreSameButValues records others → AreSameButValues others records
+pub all_back : (records others : List Record) → AreSameButValues records others → AreSameButValues others records
 all_back [] [] e = tt
 all_back [] (s ∷ others) e = absurd e
 all_back (r ∷ records) [] e = absurd e
 all_back (r ∷ records) (s ∷ others) e = (same_back r s e.0, all_back records others e.1)
 
 -- the record at the same place, and what comes before it
-record Beside (records others : List Record) (i : ℕ) (r : Record) : Type 0 where
-  event : Record
-  found : slice_get others i ≡ Some event
-  same : IsSameButValue r event
-  as_many : barrier_count (take i records) ≡ barrier_count (take i others)
-  same_held : (held : List ℕ) → held_after held (take i records) ≡ held_after held (take i others)
+pub record Beside (records others : List Record) (i : ℕ) (r : Record) : Type 0 where
+  pub event : Record
+  pub found : slice_get others i ≡ Some event
+  pub same : IsSameButValue r event
+  pub as_many : barrier_count (take i records) ≡ barrier_count (take i others)
+  pub same_held : (held : List ℕ) → held_after held (take i records) ≡ held_after held (take i others)
 
-beside : (records others : List Record) → AreSameButValues records others → (i : ℕ) (r : Record) → slice_get records i ≡ Some r → Beside records others i r
+pub beside : (records others : List Record) → AreSameButValues records others → (i : ℕ) (r : Record) → slice_get records i ≡ Some r → Beside records others i r
 beside [] [] e i r found = cc
 beside [] (s ∷ others) e i r found = absurd e
 beside (q ∷ records) [] e i r found = absurd e

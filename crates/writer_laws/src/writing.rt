@@ -1,8 +1,10 @@
 ghost use Rattle.std.specs.Prelude.{◌≡◌, ◌↔◌, ◌⊎◌, ℕ, Bool, [], List, All, Some};
+ghost use Rattle.log_format.specs.declared.format.Format.{Format};
 ghost use Rattle.log_format.specs.declared.record.Record.{Record};
 ghost use Rattle.race_model.specs.ForkJoin.{IsForkJoin};
-ghost use Rattle.race_model.specs.Race.{IsUnordered, IsRace, IsRacePair};
+ghost use Rattle.race_model.specs.Race.{IsUnordered, IsRace, IsRacePair, held_after};
 ghost use Rattle.race_model.specs.Trace.{Logs, Node, record_at, IsThere};
+ghost use Rattle.writer_laws.specs.Rules.{AreNested, AreTabled};
 ghost use Rattle.writer_laws.specs.Places.{ForkAlike, IsAtPlace};
 ghost use Rattle.writer_laws.specs.Cutting.{IsCut};
 ghost use Rattle.writer_laws.specs.Dropping.{Drops, DropsAtRoot};
@@ -28,6 +30,8 @@ pub fn stand_ins_lose_no_pair()
 /// run with the same race pairs.
 pub fn accesses_may_be_dropped()
     ensures run { (keep : Node → Bool) (logs others : Logs) → IsForkJoin logs → Drops keep logs others → IsForkJoin others }
+    ensures nested { (keep : Node → Bool) (logs others : Logs) → AreNested logs → Drops keep logs others → AreNested others }
+    ensures tabled { (format : Format) (keep : Node → Bool) (logs others : Logs) → AreTabled format logs → Drops keep logs others → AreTabled format others }
     ensures pairs { (keep : Node → Bool) (logs others : Logs) (pair : ℕ × ℕ) → IsForkJoin logs → Drops keep logs others → IsRacePair logs pair ↔ IsRacePair others pair }
 {}
 
@@ -40,6 +44,7 @@ pub fn root_accesses_may_be_dropped()
 /// Runs that differ in values and sites alone have the same race pairs, and the same records race.
 pub fn values_do_not_matter()
     ensures run { (logs others : Logs) → IsForkJoin logs → DifferInValues logs others → IsForkJoin others }
+    ensures nested { (logs others : Logs) → AreNested logs → DifferInValues logs others → AreNested others }
     ensures pairs { (logs others : Logs) (pair : ℕ × ℕ) → IsForkJoin logs → DifferInValues logs others → IsRacePair logs pair ↔ IsRacePair others pair }
     ensures races { (logs others : Logs) (x y : Node) (r s q t : Record) → IsForkJoin logs → DifferInValues logs others → IsRace logs x y r s
         → record_at others x ≡ Some q → record_at others y ≡ Some t → IsRace others x y q t }
@@ -56,6 +61,7 @@ pub fn locks_may_move()
 /// same race pairs.
 pub fn region_may_be_cut()
     ensures run { (region barriers span : ℕ) (logs others : Logs) → IsForkJoin logs → IsCut region barriers span logs others → IsForkJoin others }
+    ensures nested { (region barriers span : ℕ) (logs others : Logs) → IsForkJoin logs → AreNested logs → IsCut region barriers span logs others → AreNested others }
     ensures pairs { (region barriers span : ℕ) (logs others : Logs) (pair : ℕ × ℕ) → IsForkJoin logs → IsCut region barriers span logs others
         → IsRacePair logs pair ↔ IsRacePair others pair }
 {}
@@ -68,6 +74,7 @@ pub fn root_is_ordered()
 /// A run may be split between two regions of the root: the parts are fork-join runs, and its race pairs are theirs.
 pub fn run_may_be_split()
     ensures runs { (logs one two : Logs) → IsForkJoin logs → IsSplit logs one two → IsForkJoin one × IsForkJoin two }
+    ensures nested { (logs one two : Logs) → IsForkJoin logs → AreNested logs → (split : IsSplit logs one two) → held_after [] split.before ≡ [] → AreNested one × AreNested two }
     ensures pairs { (logs one two : Logs) (pair : ℕ × ℕ) → IsForkJoin logs → IsSplit logs one two → IsRacePair logs pair ↔ (IsRacePair one pair ⊎ IsRacePair two pair) }
 {}
 
