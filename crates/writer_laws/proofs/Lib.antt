@@ -3,6 +3,7 @@ pub mod Cut
 pub mod CutForks
 pub mod CutRecords
 pub mod CutTasks
+pub mod Deciding
 pub mod Dropped
 pub mod Ends
 pub mod Forks
