@@ -259,15 +259,15 @@ module _ (trace : Trace) (is : is_fork_join trace ≡ true) where
   forked_by_run = fork_join_by.tasks.forked
 
 -- the barriers that a record, or the Region through which it hangs, comes after in the lane below a level
-abbrev fork_barriers : Option Fork → ℕ
+abbrev pub fork_barriers : Option Fork → ℕ
 fork_barriers None = 0
 fork_barriers (Some f) = f.barriers
 
-abbrev pass : Logs → List Step → ℕ → ℕ → Option Step → ℕ
+abbrev pub pass : Logs → List Step → ℕ → ℕ → Option Step → ℕ
 pass logs path own l None = own
 pass logs path own l (Some step) = fork_barriers (slice_get (forks (logs (take (suc l) path))) step.region)
 
-abbrev passed : Logs → Node → ℕ → ℕ
+abbrev pub passed : Logs → Node → ℕ → ℕ
 passed logs x l = pass logs x.path (barriers_before logs x) l (slice_get x.path (suc l))
 
 get_none : {X : Type 0} (xs : List X) (n : ℕ) → n ≡ length xs → slice_get xs n ≡ None

@@ -1,4 +1,5 @@
 pub mod Carried
+pub mod Computed
 pub mod Cut
 pub mod CutForks
 pub mod CutRecords

@@ -1,4 +1,5 @@
 pub mod Carrying
+pub mod Cases
 pub mod Cutting
 pub mod Dropping
 pub mod Guards
