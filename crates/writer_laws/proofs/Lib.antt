@@ -6,6 +6,7 @@ pub mod CutRecords
 pub mod CutTasks
 pub mod Deciding
 pub mod Dropped
+pub mod DroppingCases
 pub mod Ends
 pub mod Forks
 pub mod Guarding
@@ -18,4 +19,5 @@ pub mod Replaced
 pub mod Split
 pub mod Unordered
 pub mod Valued
+pub mod WritingCases
 pub mod Written

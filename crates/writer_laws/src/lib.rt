@@ -1,9 +1,11 @@
 //! Laws for those who write folders: what may be left out, moved, cut or changed without changing a race pair.
 #![tactic(auto)]
 
+mod cases;
 mod rules;
 mod writing;
 
+pub use cases::{other_premises_are_needed, premises_of_dropping_are_needed};
 pub use rules::fork_join_runs_keep_rules;
 pub use writing::{
     accesses_may_be_dropped, locks_may_move, recorders_keep_pairs, region_may_be_cut,

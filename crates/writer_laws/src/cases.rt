@@ -1,0 +1,24 @@
+ghost use Rattle.std.specs.Prelude.{ℕ};
+ghost use Rattle.race_model.specs.Race.{IsRacePair};
+ghost use Rattle.race_model.specs.Trace.{logs_of};
+ghost use Rattle.writer_laws.specs.Cases.{
+    Premise, LosesWithout, LosesPair, DifferInLocksAlone, unlocked_access, locked_access, held_over_barrier, cut_where_held, team_inside,
+    cut_inside, no_barrier, first_half, second_half,
+};
+
+/// Whichever premise isn't met by the access that is kept for one that is left out, a race pair may be lost: that both are of one task,
+/// that no barrier of the task comes between them, that they are of one line, that the kept one touches all the bytes, that it is of the same kind or a
+/// write for a read, and that it is under no other mutexes.
+pub fn premises_of_dropping_are_needed()
+    ensures { (p : Premise) → LosesWithout p }
+{}
+
+/// What goes wrong with the other laws: a lock that is moved before an access hides a race; a region that is cut where a mutex is held has
+/// a race that the run hasn't; one that is cut at a barrier of a team inside, which not all its lanes meet, loses one; and so do two folders, each
+/// of which has the logs of some lanes of a region.
+pub fn other_premises_are_needed()
+    ensures lock_moved { DifferInLocksAlone (logs_of unlocked_access) (logs_of locked_access) × LosesPair (logs_of unlocked_access) (logs_of locked_access) }
+    ensures cut_where_held { LosesPair (logs_of cut_where_held) (logs_of held_over_barrier) }
+    ensures cut_inside { LosesPair (logs_of team_inside) (logs_of cut_inside) }
+    ensures split_within { (pair : ℕ × ℕ) × IsRacePair (logs_of no_barrier) pair × (IsRacePair (logs_of first_half) pair → ⊥) × (IsRacePair (logs_of second_half) pair → ⊥) }
+{}
