@@ -1,3 +1,4 @@
+pub mod AllCases
 pub mod Carried
 pub mod Computed
 pub mod Cut
@@ -14,6 +15,7 @@ pub mod Kept
 pub mod KeptRules
 pub mod KeptRun
 pub mod Nested
+pub mod Origins
 pub mod Renumbered
 pub mod Replaced
 pub mod Split

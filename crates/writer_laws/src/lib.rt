@@ -5,7 +5,7 @@ mod cases;
 mod rules;
 mod writing;
 
-pub use cases::{other_premises_are_needed, premises_of_dropping_are_needed};
+pub use cases::{all_laws_apply, other_premises_are_needed, premises_of_dropping_are_needed};
 pub use rules::fork_join_runs_keep_rules;
 pub use writing::{
     accesses_may_be_dropped, locks_may_move, recorders_keep_pairs, region_may_be_cut,
