@@ -26,7 +26,8 @@ use Rattle.writer_laws.specs.Splitting.{later_number, KeepsLogs, IsSplit}
 use Rattle.writer_laws.specs.StandIns.{HasStandIn}
 use Rattle.writer_laws.specs.Values.{IsSameButValue, AreSameButValues, DifferInValues}
 use Rattle.writer_laws.specs.Writing.{IsWritten}
-use Rattle.writer_laws.proofs.Computed.{alike_logs, kept_logs, left_out}
+use Rattle.writer_laws.proofs.Alike.{alike_logs}
+use Rattle.writer_laws.proofs.Computed.{kept_logs, left_out}
 use Rattle.writer_laws.proofs.Deciding.{is_fork_join, fork_join_by, forked_by_run}
 use Rattle.writer_laws.proofs.Origins.{old_from, old_is}
 

@@ -1,3 +1,4 @@
+pub mod Alike
 pub mod AllCases
 pub mod Carried
 pub mod Computed

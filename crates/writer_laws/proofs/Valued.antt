@@ -5,21 +5,22 @@ use Rattle.std.proofs.lemmas.List.Elements.{All-head, All-tail}
 use Rattle.log_format.specs.declared.record.Record.{Record}
 use Rattle.log_format.specs.declared.record.Kind.{Kind}
 use Rattle.log_format.specs.declared.record.Kind.TheVariants.{End}
-use Rattle.race_model.specs.Trace.{Logs, Node, record_at, is_region_kind, is_barrier_kind, barrier_count}
+use Rattle.race_model.specs.Trace.{Trace, Logs, logs_of, Node, record_at, is_region_kind, is_barrier_kind, barrier_count}
 use Rattle.race_model.specs.Race.{IsRace, IsRacePair, held_after, held_after_kind}
 use Rattle.race_model.specs.ForkJoin.{IsForkJoin, EndsOnce}
 use Rattle.race_laws.proofs.Counts.{region_from_true}
 use Rattle.writer_laws.specs.Carrying.{Carries}
 use Rattle.writer_laws.specs.Places.{Fork, forks_from, IsAtPlace}
 use Rattle.writer_laws.specs.StandIns.{Covers, HasStandIn, IsReplaced}
-use Rattle.writer_laws.specs.Values.{IsSameButValue, AreSameButValues, DifferInValues}
+use Rattle.writer_laws.specs.Values.{IsSameButValue, AreSameButValues, DifferInValues, TasksDifferInValues}
 use Rattle.writer_laws.proofs.Forks.{barrier_step}
 use Rattle.writer_laws.proofs.Unordered.{places_carry}
+use Rattle.writer_laws.proofs.Alike.{AreAlike, alike_logs}
 use Rattle.writer_laws.proofs.Ends.{NoEnd, ends_later}
 use Rattle.writer_laws.proofs.KeptRun.{ends_alike}
 use Rattle.writer_laws.proofs.Replaced.{race_by, no_pair_lost}
 
-same_back : (r s : Record) → IsSameButValue r s → IsSameButValue s r
+pub same_back : (r s : Record) → IsSameButValue r s → IsSameButValue s r
 same_back r s e = record { kind = sym e.kind; size = sym e.size; line = sym e.line; addr = sym e.addr; span = λ region. sym (e.span (e.kind ∙ region)) }
 
 pub all_back : (records others : List Record) → AreSameButValues records others → AreSameButValues others records
@@ -139,3 +140,19 @@ values_keep_pairs logs others tree same pair = (
   no_pair_lost (IsAtPlace logs others) logs others tree (replaced logs others same) pair,
   no_pair_lost (IsAtPlace others logs) others logs (values_keep_run logs others tree same) (replaced others logs (λ path. all_back (logs path) (others path) (same path))) pair,
 )
+
+-- task by task
+pub tasks_back : (tasks others : Trace) → TasksDifferInValues tasks others → TasksDifferInValues others tasks
+tasks_back [] [] same = tt
+tasks_back [] (u ∷ others) same = absurd same
+tasks_back (t ∷ tasks) [] same = absurd same
+tasks_back (t ∷ tasks) (u ∷ others) same = (sym same.0, all_back t.records u.records same.1, tasks_back tasks others same.2)
+
+pub logs_differ : (tasks others : Trace) → TasksDifferInValues tasks others → DifferInValues (logs_of tasks) (logs_of others)
+logs_differ tasks others same path = alike_logs AreSameButValues tasks others tt (alike tasks others same) path
+  where
+    alike : (tasks others : Trace) → TasksDifferInValues tasks others → AreAlike AreSameButValues tasks others
+    alike [] [] same = tt
+    alike [] (u ∷ others) same = absurd same
+    alike (t ∷ tasks) [] same = absurd same
+    alike (t ∷ tasks) (u ∷ others) same = (same.0, same.1, alike tasks others same.2)

@@ -12,7 +12,8 @@ use Rattle.writer_laws.specs.Cases.{
     first_half, second_half,
 }
 use Rattle.writer_laws.specs.Guards.{guarded}
-use Rattle.writer_laws.proofs.Computed.{alike_logs, part_at_once, pair_of, loses}
+use Rattle.writer_laws.proofs.Alike.{alike_logs}
+use Rattle.writer_laws.proofs.Computed.{part_at_once, pair_of, loses}
 use Rattle.writer_laws.proofs.Deciding.{is_fork_join, lacks_pair, passed}
 
 no_mutex : {P : Type 0} (m : ℕ) → Contains [] m → P
