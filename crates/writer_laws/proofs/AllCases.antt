@@ -14,8 +14,23 @@ use Rattle.race_model.specs.ForkJoin.{IsForkJoin}
 use Rattle.race_laws.proofs.ForkJoinExample.{EachTask, at_task}
 use Rattle.race_laws.proofs.LabelPlace.{not_both_empty}
 use Rattle.writer_laws.specs.Cases.{
-    access, of_mutex, mark, fork, lane, inner, all_but, no_root_access, reader, whole_run, without_root, without_repeated, with_locks_moved, without_values, cut_run, first_folder,
-    second_folder,
+  access,
+  of_mutex,
+  mark,
+  fork,
+  lane,
+  inner,
+  all_but,
+  no_root_access,
+  reader,
+  whole_run,
+  without_root,
+  without_repeated,
+  with_locks_moved,
+  without_values,
+  cut_run,
+  first_folder,
+  second_folder,
 }
 use Rattle.writer_laws.specs.Cutting.{cut_number, IsLaneCut, IsElsewhere, IsCut}
 use Rattle.writer_laws.specs.Dropping.{MayBeDropped, Drops, DropsAtRoot}
@@ -101,11 +116,31 @@ alike records others = AreGuardedAlike (guarded records) (guarded others)
 
 pub locks_are_moved : DifferInLocks (logs_of without_repeated) (logs_of with_locks_moved)
 locks_are_moved = record {
-  guards = λ path. alike_logs alike without_repeated with_locks_moved tt
-      (refl, itself (fork ∷ mark End ∷ []),
-      (refl, (refl, (λ access m. (λ h. h, λ h. h)), (refl, (λ access. other_kind fork _ (inl refl) access), (refl, (λ access. other_kind (mark Barrier) _ (inr refl) access), (refl, (λ access. other_kind fork _ (inl refl) access),
-      (refl, (λ access m. (λ h. h, λ h. h)), (refl, (λ access m. (λ h. h, λ h. h)), tt)))))),
-      (refl, itself (access Write 6 100 0 ∷ mark End ∷ []), (refl, itself (mark End ∷ []), (refl, itself (access Write 9 300 0 ∷ mark End ∷ []), (refl, itself (access Read 10 300 0 ∷ mark End ∷ []), (refl, itself reader, tt))))))) path;
+  guards = λ path. alike_logs alike without_repeated with_locks_moved tt (
+    refl,
+    itself (fork ∷ mark End ∷ []),
+    (
+      refl,
+      (
+        refl,
+        (λ access m. (λ h. h, λ h. h)),
+        (
+          refl,
+          (λ access. other_kind fork _ (inl refl) access),
+          (
+            refl,
+            (λ access. other_kind (mark Barrier) _ (inr refl) access),
+            (
+              refl,
+              (λ access. other_kind fork _ (inl refl) access),
+              (refl, (λ access m. (λ h. h, λ h. h)), (refl, (λ access m. (λ h. h, λ h. h)), tt)),
+            ),
+          ),
+        ),
+      ),
+      (refl, itself (access Write 6 100 0 ∷ mark End ∷ []), (refl, itself (mark End ∷ []), (refl, itself (access Write 9 300 0 ∷ mark End ∷ []), (refl, itself (access Read 10 300 0 ∷ mark End ∷ []), (refl, itself reader, tt))))),
+    ),
+  ) path;
   ended = λ path task. (fork_join_by with_locks_moved refl).ends.ended path task;
 }
   where
@@ -124,10 +159,15 @@ other_value : (line addr : ℕ) → IsSameButValue (access Write line addr 7) (a
 other_value line addr = record { kind = refl; size = refl; line = refl; addr = refl; span = λ is. cc }
 
 pub values_are_zero : DifferInValues (logs_of with_locks_moved) (logs_of without_values)
-values_are_zero path = alike_logs AreSameButValues with_locks_moved without_values tt
-    (refl, same_all (fork ∷ mark End ∷ []),
-    (refl, (same_one (of_mutex Lock 1), (other_value 5 100, (same_one (of_mutex Unlock 1), (same_one fork, (same_one (mark Barrier), (same_one fork, (same_one (of_mutex Lock 1), (other_value 8 200, same_all (of_mutex Unlock 1 ∷ mark End ∷ []))))))))),
-    (refl, same_all (access Write 6 100 0 ∷ mark End ∷ []), (refl, same_all (mark End ∷ []), (refl, same_all (access Write 9 300 0 ∷ mark End ∷ []), (refl, same_all (access Read 10 300 0 ∷ mark End ∷ []), (refl, same_all reader, tt))))))) path
+values_are_zero path = alike_logs AreSameButValues with_locks_moved without_values tt (
+  refl,
+  same_all (fork ∷ mark End ∷ []),
+  (
+    refl,
+    (same_one (of_mutex Lock 1), (other_value 5 100, (same_one (of_mutex Unlock 1), (same_one fork, (same_one (mark Barrier), (same_one fork, (same_one (of_mutex Lock 1), (other_value 8 200, same_all (of_mutex Unlock 1 ∷ mark End ∷ []))))))))),
+    (refl, same_all (access Write 6 100 0 ∷ mark End ∷ []), (refl, same_all (mark End ∷ []), (refl, same_all (access Write 9 300 0 ∷ mark End ∷ []), (refl, same_all (access Read 10 300 0 ∷ mark End ∷ []), (refl, same_all reader, tt))))),
+  ),
+) path
 
 -- a lane isn't the root
 not_root : (logs : Logs) (f : Node) (n s : ℕ) (child : List Step) → IsLane logs f n s child → child ≡ [] → ⊥
@@ -144,9 +184,10 @@ late_lane : (n : ℕ) (records : List Record) → n < 2 → StaysElsewhere (lane
 late_lane n records within deep is = absurd (is.not_late n within refl)
 
 elsewhere : EachTask StaysElsewhere cut_run
-elsewhere =
-    (λ deep is. absurd (deep refl),
-    (early_lane 0 _ (omega arith), (λ deep is. refl, (λ deep is. refl, (early_lane 1 _ (omega arith), (late_lane 0 _ (omega arith), (λ deep is. refl, (λ deep is. refl, (late_lane 1 _ (omega arith), tt)))))))))
+elsewhere = (
+  λ deep is. absurd (deep refl),
+  (early_lane 0 _ (omega arith), (λ deep is. refl, (λ deep is. refl, (early_lane 1 _ (omega arith), (late_lane 0 _ (omega arith), (λ deep is. refl, (λ deep is. refl, (late_lane 1 _ (omega arith), tt)))))))),
+)
 
 lanes : (n : ℕ) → n < 2 → IsLaneCut 0 (logs_of without_values (lane_of [] 0 n 2)) (logs_of cut_run (lane_of [] 0 n 2)) (logs_of cut_run (lane_of [] 1 n 2))
 lanes zero less = record {

@@ -472,8 +472,13 @@ lacks_pair trace pair fine is p = never (may_race (logs_of trace) pair p.x p.y p
         at false = changes p.s yours
 
     may : may_race (logs_of trace) pair p.x p.y p.r p.s ≡ true
-    may = rw (lines, overlap_by p.r p.s p.race.shares, change p.race.changes, apart_by (held_at (logs_of trace) p.x) (held_at (logs_of trace) p.y) p.race.no_mutex,
-        unordered_true (logs_of trace) p.x p.y (fork_join_by trace fine) x_there y_there p.race.unordered) refl
+    may = rw (
+      lines,
+      overlap_by p.r p.s p.race.shares,
+      change p.race.changes,
+      apart_by (held_at (logs_of trace) p.x) (held_at (logs_of trace) p.y) p.race.no_mutex,
+      unordered_true (logs_of trace) p.x p.y (fork_join_by trace fine) x_there y_there p.race.unordered,
+    ) refl
 
     none : not (may_race (logs_of trace) pair p.x p.y p.r p.s) ≡ true
     none =

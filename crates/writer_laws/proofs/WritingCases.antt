@@ -8,8 +8,21 @@ use Rattle.race_model.specs.Trace.{Trace, Node, logs_of, record_at}
 use Rattle.race_model.specs.Race.{IsRacePair, held_at}
 use Rattle.counted_order.specs.Parting.{PartInLanes}
 use Rattle.writer_laws.specs.Cases.{
-    LosesPair, DifferInLocksAlone, access, lane, inner, event_of, unlocked_access, locked_access, held_over_barrier, cut_where_held, team_inside, cut_inside, no_barrier,
-    first_half, second_half,
+  LosesPair,
+  DifferInLocksAlone,
+  access,
+  lane,
+  inner,
+  event_of,
+  unlocked_access,
+  locked_access,
+  held_over_barrier,
+  cut_where_held,
+  team_inside,
+  cut_inside,
+  no_barrier,
+  first_half,
+  second_half,
 }
 use Rattle.writer_laws.specs.Guards.{guarded}
 use Rattle.writer_laws.proofs.Alike.{alike_logs}

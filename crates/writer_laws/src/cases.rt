@@ -3,9 +3,30 @@ ghost use Rattle.race_model.specs.Race.{IsRacePair};
 ghost use Rattle.race_model.specs.ForkJoin.{IsForkJoin};
 ghost use Rattle.race_model.specs.Trace.{logs_of};
 ghost use Rattle.writer_laws.specs.Cases.{
-    Premise, LosesWithout, LosesPair, DifferInLocksAlone, unlocked_access, locked_access, held_over_barrier, cut_where_held, team_inside,
-    cut_inside, no_barrier, first_half, second_half, lane, all_but, no_root_access, whole_run, without_root, without_repeated, with_locks_moved,
-    without_values, cut_run, first_folder, second_folder,
+  Premise,
+  LosesWithout,
+  LosesPair,
+  DifferInLocksAlone,
+  unlocked_access,
+  locked_access,
+  held_over_barrier,
+  cut_where_held,
+  team_inside,
+  cut_inside,
+  no_barrier,
+  first_half,
+  second_half,
+  lane,
+  all_but,
+  no_root_access,
+  whole_run,
+  without_root,
+  without_repeated,
+  with_locks_moved,
+  without_values,
+  cut_run,
+  first_folder,
+  second_folder,
 };
 ghost use Rattle.writer_laws.specs.Cutting.{IsCut};
 ghost use Rattle.writer_laws.specs.Dropping.{Drops, DropsAtRoot};
