@@ -2,7 +2,8 @@
 """Checks a large folder of logs by its regions: each region of the root becomes a folder of its own, these are checked side by side, on one
 machine or on several, and what they print is united into what `check` of the whole prints.
 
-Two accesses that race lie under one region of the root, so no pair is lost. A part has the root's log with that one Region alone, the
+No pair is lost or made up: a run may be split between two regions of the root, again and again, and the root's accesses may be left out. These are
+laws, `run_may_be_split` and `root_accesses_may_be_dropped` of `writer_laws`. A part has the root's log with that one Region alone, the
 region's logs under the names of region 0, and an index of them. Before the parts the index and the root's log are checked by themselves.
 Where a place is bad the first one is told, by the name that its log has in the whole folder. One answer differs: that there are more than
 65,536 barrier intervals with an access is told of a part that has as many, and not of the whole.

@@ -1,0 +1,12 @@
+pub mod Carrying
+pub mod Cases
+pub mod Cutting
+pub mod Dropping
+pub mod Guards
+pub mod Places
+pub mod Renumbering
+pub mod Rules
+pub mod Splitting
+pub mod StandIns
+pub mod Values
+pub mod Writing
