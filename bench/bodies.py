@@ -49,10 +49,17 @@ def source_of(body):
     return os.path.join(TOP, "crates", body.crate, body.file)
 
 
+def text_of(body):
+    """The file of a body as it is now."""
+    if not os.path.exists(source_of(body)):
+        return ""
+    with open(source_of(body), encoding="utf-8") as file:
+        return file.read()
+
+
 def write(body):
     """Writes a body over the file as it is now; whether its text stands there once."""
-    with open(source_of(body), encoding="utf-8") as file:
-        text = file.read()
+    text = text_of(body)
     if text.count(body.old) != 1:
         return False
     name = f"crates/{body.crate}/{body.file}"
@@ -90,11 +97,7 @@ def table(all_bodies):
 
 def main():
     found = bodies()
-    stale = []
-    for body in found:
-        with open(source_of(body), encoding="utf-8") as file:
-            if file.read().count(body.old) != 1:
-                stale.append(body)
+    stale = [body for body in found if text_of(body).count(body.old) != 1]
     if "--write" in sys.argv:
         for body in found:
             write(body)
