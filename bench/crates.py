@@ -52,11 +52,11 @@ def longest(graph, name):
 
 
 def rows(text):
-    """The lines of the tables of crates, each with the crates that it names."""
+    """The rows of the tables of crates, each with the crates that it names."""
     inside = False
     for number, line in enumerate(text):
         inside = line == HEADING or inside and line.startswith("|")
-        found = re.match(r"\| ((?:`\w+`(?:, )?)+) \| .* \| ", line) if inside else None
+        found = re.match(r"\| ((?:`\w+`(?:, )?)+) \| ", line) if inside else None
         if found:
             yield number, re.findall(r"\w+", found[1])
 
@@ -74,8 +74,8 @@ def main():
             differ += 1
             continue
         due = " / ".join(direct(graph, name) for name in names)
-        head, _, _ = text[number].rstrip("|").rstrip().rpartition(" | ")
-        line = f"{head} | {due} |".replace("|  |", "| |")
+        crate, owns, _ = (cell.strip() for cell in text[number][1:-1].split("|"))
+        line = f"| {crate} | {owns} | {due} |".replace("|  |", "| |")
         if line != text[number]:
             print(f"line {number + 1}: {' '.join(names)} depends on {due}")
             differ += 1
