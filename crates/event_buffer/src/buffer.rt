@@ -13,15 +13,12 @@ ghost use Rattle.event_buffer.specs.Logged.{HoldsRecords, HasAll, KeepsPrefix};
 use crate::fault::BufferFault;
 use event_block::Block;
 use flush_writer::Flusher;
-use log_format::{RECORD_LIMIT, Record, encode};
+use log_format::{RECORD_LIMIT, RECORD_SIZE, Record, encode};
 use std::alloc::Global;
 use std::marker::{Model, Send};
 use std::sync::Wait;
 use std::thread::Threads;
 use sw_base::{Log, Trouble};
-
-/// The bytes of a record.
-const RECORD_SIZE: usize = 24;
 
 /// Takes a task's records for its log.
 #[derive(Drop)]
