@@ -18,8 +18,8 @@ IsFixedSchedule Even = Unit {0}
 IsFixedSchedule (Static chunk) = Unit {0}
 IsFixedSchedule (Dynamic chunk) = ⊥
 
--- No critical section stands in the statements, no loop whose chunks are drawn and no atomic update, in inner regions neither: in
--- which order the lanes come to it changes nothing but the values that they read.
+-- No critical section stands in the statements, no loop whose chunks are drawn and no atomic update, in inner regions neither. Drawn
+-- chunks let the order of lanes decide more than what they read; a mutex hides a race; updates are left out as the law was asked for.
 abbrev pub IsFixed : Code → Type 0
 IsFixed Done = Unit {0}
 IsFixed (Set slot value rest) = IsFixed rest

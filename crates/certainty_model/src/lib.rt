@@ -1,8 +1,9 @@
 //! Certain kernels: one run without races is every run.
 //!
-//! A kernel is *fixed* (`IsFixed`) if it has no critical section, no loop whose chunks are drawn and no atomic update: the order of its
-//! lanes changes nothing but the values that they read. A *run* (`IsRun`) is the tasks of a whole run with a legal history that
-//! respects happens-before. A run of a fixed kernel that has no race is *certain* (`IsCertain`).
+//! A kernel is *fixed* (`IsFixed`) if it has no loop whose chunks are drawn, which lets the order of its lanes decide more than what they
+//! read; no critical section, whose mutex hides a race; and no atomic update, since the law was asked for without. A *run* (`IsRun`) is the
+//! tasks of a whole run with a legal history that respects happens-before. A run of a fixed kernel that has no race is *certain*
+//! (`IsCertain`).
 //!
 //! The laws, of lawful kernels: whatever an execution of the kernel logs, whole or stopped, the certain run logs first
 //! (`executions_begin_the_certain_run`); no task of it stops at a divisor 0, an index outside its array or a full log

@@ -2,7 +2,7 @@
 use std::alloc::{AllocError, AllocFailed};
 
 /// Why a serial run doesn't go on. A line is that of the operator, of the array's name, or of the record for which there is no room.
-#[derive(Clone, Copy, Debug, PartialEq, Eq)]
+#[derive(Clone, Copy)]
 pub enum Halt {
     /// A divisor is 0.
     DivZero { line: u32 },
@@ -12,7 +12,7 @@ pub enum Halt {
     LogFull { line: u32 },
     /// All records that the run may make are made.
     Long,
-    /// A statement that isn't executed here: its meaning hangs on the order of lanes, or its chunks are empty.
+    /// A statement that isn't executed here: no fixed kernel has it, or its chunks are empty.
     Refused,
     /// No memory was found.
     Memory,

@@ -12,8 +12,7 @@
 //! Two laws follow: the records of a task that ended are its whole trace, whatever others did while it stood still
 //! (`ended_tasks_have_their_trace`), and the trace of one that stopped ends in that stop (`stopped_tasks_stop_as_told`).
 //!
-//! Statements whose meaning hangs on the order of lanes aren't executed here: critical sections, atomic updates, and loops whose chunks are
-//! drawn.
+//! What a fixed kernel doesn't have isn't executed here: critical sections, atomic updates, and loops whose chunks are drawn.
 #![tactic(auto)]
 
 mod frame;

@@ -26,7 +26,7 @@ pub struct TaskLog {
 }
 
 /// Where a lane stands still.
-#[derive(Clone, Copy, Debug, PartialEq, Eq)]
+#[derive(Clone, Copy)]
 pub enum Stage {
     /// At a barrier, or before its first record.
     Waits,

@@ -8,7 +8,7 @@ use std::alloc::{AllocError, AllocFailed};
 use sw_base::Path;
 
 /// Why a task stops.
-#[derive(Clone, Copy, Debug, PartialEq, Eq)]
+#[derive(Clone, Copy, Debug)]
 pub enum StopWhy {
     /// A divisor is 0.
     DivZero,
@@ -21,7 +21,7 @@ pub enum StopWhy {
 }
 
 /// Why a serial run doesn't go on.
-#[derive(Debug, Drop)]
+#[derive(Drop)]
 pub enum Stop {
     /// The task at this path stops at this line.
     Stopped { path: Path, line: u32, why: StopWhy },

@@ -12,7 +12,7 @@ use kernel_syntax::{Body, Expr, Op, Stmt, apply};
 use std::alloc::{AllocError, Global};
 
 /// What a lane does next.
-#[derive(Clone, Copy, Debug)]
+#[derive(Clone, Copy)]
 pub(crate) enum Piece<'k> {
     /// A variable of an unrolled loop gets its value.
     Set { slot: u32, value: i64 },
