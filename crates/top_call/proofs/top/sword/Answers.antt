@@ -124,13 +124,13 @@ returns-in-Ok-Some-Show-clause-only_reads g c = λ _.
     record { request = show _; says = said; reads = tt }
 
 pub returns-in-Ok-Some-Check-clause-asks_once : goal.returns-in-Ok-Some-Check-clause-asks_once
-returns-in-Ok-Some-Check-clause-asks_once g c = inl (ap (λ s. s.roots) c.check.ensures.same)
+returns-in-Ok-Some-Check-clause-asks_once g c = inl (ap (λ s. s.roots) c.check.ensures.reads.same)
 
 pub returns-in-Ok-Some-Show-clause-asks_once : goal.returns-in-Ok-Some-Show-clause-asks_once
-returns-in-Ok-Some-Show-clause-asks_once g c = inl (ap (λ s. s.roots) c.show.ensures.same)
+returns-in-Ok-Some-Show-clause-asks_once g c = inl (ap (λ s. s.roots) c.show.ensures.reads.same)
 
 pub returns-in-Ok-Some-Replay-clause-asks_once : goal.returns-in-Ok-Some-Replay-clause-asks_once
-returns-in-Ok-Some-Replay-clause-asks_once g c = inl (ap (λ s. s.roots) c.replay_file.ensures.same)
+returns-in-Ok-Some-Replay-clause-asks_once g c = inl (ap (λ s. s.roots) c.replay_file.ensures.reads.same)
 
 pub returns-in-Ok-None-clause-upgrade : goal.returns-in-Ok-None-clause-upgrade
 returns-in-Ok-None-clause-upgrade g c = λ dir new says. let usage = rw c.in-Ok-None.field-0-is at c.in-Ok-None.ensures.usage in absurd (usage (upgrade dir new) says)
@@ -190,7 +190,7 @@ returns-in-Ok-Some-Confirm-clause-only_reads g c = λ _.
     record { request = confirm _ _ _ _ _; says = said; reads = tt }
 
 pub returns-in-Ok-Some-Confirm-clause-asks_once : goal.returns-in-Ok-Some-Confirm-clause-asks_once
-returns-in-Ok-Some-Confirm-clause-asks_once g c = inl (ap (λ s. s.roots) c.confirm_records.ensures.same)
+returns-in-Ok-Some-Confirm-clause-asks_once g c = inl (ap (λ s. s.roots) c.confirm_records.ensures.reads.same)
 
 pub returns-in-Ok-None-clause-explain : goal.returns-in-Ok-None-clause-explain
 returns-in-Ok-None-clause-explain g c = λ dir low high says.
@@ -211,7 +211,7 @@ returns-in-Ok-Some-Explain-clause-only_reads g c = λ _.
     record { request = explain _ _ _; says = said; reads = tt }
 
 pub returns-in-Ok-Some-Explain-clause-asks_once : goal.returns-in-Ok-Some-Explain-clause-asks_once
-returns-in-Ok-Some-Explain-clause-asks_once g c = inl (ap (λ s. s.roots) c.explain_lines.ensures.same)
+returns-in-Ok-Some-Explain-clause-asks_once g c = inl (ap (λ s. s.roots) c.explain_lines.ensures.reads.same)
 
 pub returns-in-Ok-None-clause-certify : goal.returns-in-Ok-None-clause-certify
 returns-in-Ok-None-clause-certify g c = λ kernel says. let usage = rw c.in-Ok-None.field-0-is at c.in-Ok-None.ensures.usage in absurd (usage (certify kernel) says)
