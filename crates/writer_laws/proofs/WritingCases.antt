@@ -1,5 +1,5 @@
 -- Cases in which a premise of the other laws isn't met.
-use Rattle.std.proofs.Common.{◌≡◌, ◌⊎◌, ℕ, Bool, true, List, [], ◌∷◌, Some, refl, sym, ap, subst, arith, ◌∙◌, inl, inr}
+use Rattle.std.proofs.Common.{◌≡◌, ℕ, true, List, [], ◌∷◌, Some, refl, subst, arith, inl, inr}
 use Rattle.std.specs.Prelude.{Contains, map}
 use Rattle.sw_base.specs.declared.path.Step.{Step}
 use Rattle.log_format.specs.declared.record.Record.{Record}
@@ -26,11 +26,8 @@ use Rattle.writer_laws.specs.Cases.{
 }
 use Rattle.writer_laws.specs.Guards.{guarded}
 use Rattle.writer_laws.proofs.Alike.{alike_logs}
-use Rattle.writer_laws.proofs.Computed.{part_at_once, pair_of, loses}
+use Rattle.writer_laws.proofs.Computed.{no_mutex, part_at_once, pair_of, loses}
 use Rattle.writer_laws.proofs.Deciding.{is_fork_join, lacks_pair, passed}
-
-no_mutex : {P : Type 0} (m : ℕ) → Contains [] m → P
-no_mutex m (k, within, same) = absurd (omega arith)
 
 abbrev node : List Step → ℕ → Node
 node path index = record { path = path; index = index }
