@@ -1,10 +1,8 @@
 -- A run to which all laws apply.
-use Rattle.std.proofs.Common.{◌≡◌, ◌⊎◌, ◌↔◌, ℕ, zero, suc, ◌<◌, Bool, true, false, ◌&&◌, List, [], ◌∷◌, ◌++◌, Some, refl, sym, ap, subst, arith, ◌∙◌, inl, inr}
-use Rattle.std.specs.Prelude.{slice_get, Contains}
+use Rattle.std.proofs.Common.{◌≡◌, ◌⊎◌, ℕ, zero, suc, ◌<◌, Bool, true, false, ◌&&◌, List, [], ◌∷◌, Some, refl, sym, ap, subst, arith, ◌∙◌, inl, inr}
 use Rattle.std.proofs.lemmas.Option.{same_Some}
 use Rattle.sw_base.specs.declared.path.Step.{Step}
 use Rattle.log_format.specs.declared.record.Record.{Record}
-use Rattle.log_format.specs.declared.record.Kind.{Kind}
 use Rattle.log_format.specs.declared.record.Kind.TheVariants.{Read, Write, Lock, Unlock, Barrier, Region, End}
 use Rattle.race_model.specs.Listing.{lane_of}
 use Rattle.race_model.specs.Trace.{Trace, Logs, Node, logs_of, record_at}
@@ -13,30 +11,11 @@ use Rattle.race_model.specs.Race.{IsAccess}
 use Rattle.race_model.specs.ForkJoin.{IsForkJoin}
 use Rattle.race_laws.proofs.ForkJoinExample.{EachTask, at_task}
 use Rattle.race_laws.proofs.LabelPlace.{not_both_empty}
-use Rattle.writer_laws.specs.Cases.{
-  access,
-  of_mutex,
-  mark,
-  fork,
-  lane,
-  inner,
-  all_but,
-  no_root_access,
-  reader,
-  whole_run,
-  without_root,
-  without_repeated,
-  with_locks_moved,
-  without_values,
-  cut_run,
-  first_folder,
-  second_folder,
-}
+use Rattle.writer_laws.specs.Cases.{access, of_mutex, mark, fork, lane, all_but, no_root_access, reader, whole_run, without_root, without_repeated, with_locks_moved, without_values, cut_run, first_folder, second_folder}
 use Rattle.writer_laws.specs.Cutting.{cut_number, IsLaneCut, IsElsewhere, IsCut}
 use Rattle.writer_laws.specs.Dropping.{MayBeDropped, Drops, DropsAtRoot}
 use Rattle.writer_laws.specs.Guards.{Guarded, guarded, AreGuardedAlike, DifferInLocks}
 use Rattle.writer_laws.specs.Places.{IsAtPlace}
-use Rattle.writer_laws.specs.Renumbering.{Numbers, IsFrom}
 use Rattle.writer_laws.specs.Splitting.{later_number, KeepsLogs, IsSplit}
 use Rattle.writer_laws.specs.StandIns.{HasStandIn}
 use Rattle.writer_laws.specs.Values.{IsSameButValue, AreSameButValues, DifferInValues}

@@ -1,18 +1,18 @@
 -- What holds of small runs, task by task.
-use Rattle.std.proofs.Common.{◌≡◌, ◌⊎◌, ℕ, zero, suc, ◌+◌, ◌<◌, Bool, true, false, not, ◌&&◌, List, [], ◌∷◌, ◌++◌, Some, refl, sym, ap, subst, arith, ◌∙◌, inl, inr}
-use Rattle.std.specs.Prelude.{slice_get, Contains, min, max, ◌==◌}
+use Rattle.std.proofs.Common.{◌≡◌, ◌⊎◌, ℕ, Bool, true, false, not, ◌&&◌, List, [], ◌∷◌, Some, refl, sym, ap, arith, ◌∙◌}
+use Rattle.std.specs.Prelude.{Contains, min, max, ◌==◌}
 use Rattle.std.proofs.lemmas.Bool.{and_parts}
-use Rattle.std.proofs.lemmas.Option.{same_Some}
 use Rattle.sw_base.specs.declared.path.Step.{Step}
 use Rattle.log_format.specs.declared.record.Record.{Record}
 use Rattle.log_format.specs.declared.record.Kind.TheVariants.{Update}
-use Rattle.race_model.specs.Trace.{TaskLog, Trace, Logs, Node, logs_of, path_eq, record_at}
+use Rattle.race_model.specs.Trace.{Trace, Node, logs_of, path_eq, record_at}
 use Rattle.race_model.specs.Race.{IsAccess, IsChange, SharesByte, IsRacePair, held_at}
 use Rattle.race_model.proofs.TraceLogs.{path_is, record_there}
 use Rattle.race_laws.proofs.LabelPlace.{same_node}
 use Rattle.counted_order.specs.Parting.{PartInLanes}
 use Rattle.writer_laws.specs.Cases.{LosesPair, all_but}
 use Rattle.writer_laws.specs.Dropping.{only_kept}
+use Rattle.writer_laws.proofs.Numbers.{same_number}
 use Rattle.writer_laws.proofs.Deciding.{is_fork_join, fork_join_by, lacks, lacks_pair, passed, unordered_by}
 
 -- the other run has what is kept, task by task
@@ -40,9 +40,6 @@ kept_logs keep (t ∷ tasks) (u ∷ others) same path = at (path_eq t.path path)
         let yours : logs_of (u ∷ others) path ≡ logs_of others path = (let there : path_eq u.path path ≡ false = ap (λ (p : List Step). path_eq p path) (sym same.0) ∙ e in rw there refl) in
         yours ∙ (rest ∙ ap (only_kept (λ n. keep (record { path = path; index = n }))) (sym mine))
 
-same_number : (m n : ℕ) → (m == n) ≡ true → m ≡ n
-same_number m n e = grind arith
-
 -- the one record that isn't kept
 pub left_out : (path : List Step) (index : ℕ) (x : Node) → all_but path index x ≡ false → x ≡ record { path = path; index = index }
 left_out path index x e =
@@ -52,6 +49,9 @@ left_out path index x e =
     turned : (b : Bool) → not b ≡ false → b ≡ true
     turned true is = refl
     turned false is = cc
+
+pub no_mutex : {P : Type 0} (m : ℕ) → Contains [] m → P
+no_mutex m (k, within, same) = absurd (omega arith)
 
 -- the paths go into two lanes at once
 pub part_at_once : (region n m span : ℕ) (path other : List Step) → (n ≡ m → ⊥)

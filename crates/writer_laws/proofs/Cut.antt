@@ -11,25 +11,24 @@ use Rattle.log_format.specs.declared.record.Kind.TheVariants.{Barrier, Region, E
 use Rattle.race_model.specs.Trace.{Logs, Node, record_at, IsThere, regions_before, barriers_before, is_barrier_kind, region_count, barrier_count}
 use Rattle.race_model.specs.Listing.{lane_of}
 use Rattle.race_model.specs.Order.{IsLane}
-use Rattle.race_model.specs.Race.{IsAccess, IsRacePair, IsUnordered, held_at}
+use Rattle.race_model.specs.Race.{IsAccess, IsRacePair, held_at}
 use Rattle.race_model.specs.ForkJoin.{IsForkJoin, IsTask, EndsOnce, WasForked}
 use Rattle.race_model.proofs.TraceLogs.{record_there}
 use Rattle.race_laws.proofs.LabelPlace.{HasLast, has_last}
 use Rattle.writer_laws.specs.Places.{Fork, forks}
 use Rattle.writer_laws.specs.Renumbering.{IsFrom, ComesFrom}
-use Rattle.writer_laws.specs.StandIns.{Covers, HasStandIn, IsReplaced}
+use Rattle.writer_laws.specs.StandIns.{HasStandIn, IsReplaced}
 use Rattle.writer_laws.specs.Cutting.{undouble, cut_number, cut_offset, IsLaneCut, IsElsewhere, IsCut}
-use Rattle.writer_laws.proofs.Ends.{NoEnd, access_no_end, ends_here, ends_later, ends_after, ends_rest, ends_apart, some_record as some_record_of}
+use Rattle.writer_laws.proofs.Ends.{NoEnd, access_no_end, ends_here, ends_later, ends_after, ends_rest, ends_apart, some_record}
 use Rattle.writer_laws.proofs.Forks.{fork_listed, find_fork, barrier_step}
 use Rattle.writer_laws.proofs.Renumbered.{was_region, was_lane, carried, carried_back}
-use Rattle.writer_laws.proofs.Replaced.{no_pair_lost}
+use Rattle.writer_laws.proofs.Numbers.{same_number, other_number, number_itself, number_not, not_next}
+use Rattle.writer_laws.proofs.Origins.{HasOrigin, origin}
+use Rattle.writer_laws.proofs.Replaced.{covers_itself, no_pair_lost}
 use Rattle.writer_laws.proofs.Unordered.{root_ordered}
 use Rattle.writer_laws.proofs.CutForks.{barriers_both, get_either, doubled_get, undouble_early, undouble_late}
 use Rattle.writer_laws.proofs.CutRecords.{IsMoved, not_moved, early_moved, late_moved}
 use Rattle.writer_laws.proofs.CutTasks as tasks
-
-covers_itself : (r : Record) → Covers r r
-covers_itself r = record { same_line = refl; bytes = λ byte has. has; kind = inl refl }
 
 access_no_barrier : (r : Record) → IsAccess r → r.kind ≡ Barrier → ⊥
 access_no_barrier r (inl read) meets = cc
@@ -49,29 +48,7 @@ module _ (k c span : ℕ) (logs others : Logs) (cut : IsCut k c span logs others
   task_of : (x : Node) → IsThere others x → IsTask others x.path
   task_of x here = omega arith
 
-  -- every path is from one
-  pub record HasOrigin (other : List Step) : Type 0 where
-    pub path : List Step
-    pub from : IsFrom (cut_number k others) path other
-
-  origins : (d : ℕ) (other : List Step) → length other < d → HasOrigin other
-  origins zero other less = absurd (omega arith)
-  origins (suc d) other less = at (has_last other) (origins d)
-    where
-      at : (other ≡ []) ⊎ HasLast other → ((q : List Step) → length q < d → HasOrigin q) → HasOrigin other
-      at (inl e) rec = record { path = []; from = IsFrom.root [] other refl e }
-      at (inr l) rec =
-          let shorter : length l.prefix < d = (let long : length other ≡ length l.prefix + 1 = ap length l.parts ∙ length_push l.prefix l.last in omega arith) in
-          let o = rec l.prefix shorter in
-          record {
-            path = lane_of o.path (cut_number k others l.prefix l.last.region) l.last.lane l.last.span;
-            from = IsFrom.lane (lane_of o.path (cut_number k others l.prefix l.last.region) l.last.lane l.last.span) other o.path l.prefix l.last.region l.last.lane l.last.span o.from refl l.parts;
-          }
-
   -- the cut run is a fork-join run again
-  pub origin : (other : List Step) → HasOrigin other
-  origin other = origins (suc (length other)) other (omega arith)
-
   begun : (n : ℕ) → n < span → IsTask logs (lane_of [] k n span)
   begun n within =
       let l = cut.lanes n within in
@@ -117,9 +94,9 @@ module _ (k c span : ℕ) (logs others : Logs) (cut : IsCut k c span logs others
       (ends_later cut.region (cut.again ∷ cut.after) (not_ended cut.region (inr cut.forks)) (ends_later cut.again cut.after (not_ended cut.again (inr cut.forks_again)) rest)))
 
   ended_there : (other : List Step) → IsTask others other → EndsOnce (others other)
-  ended_there other task = by (origin other)
+  ended_there other task = by (origin (cut_number k others) other)
     where
-      by : HasOrigin other → EndsOnce (others other)
+      by : HasOrigin (cut_number k others) other → EndsOnce (others other)
       by o = at (tasks.classify k c span logs others cut o.path other o.from task)
         where
           at : tasks.Where k c span logs others cut o.path other → EndsOnce (others other)
@@ -141,13 +118,13 @@ module _ (k c span : ℕ) (logs others : Logs) (cut : IsCut k c span logs others
       at [] root = by (regions_before others fork == k) (regions_before others fork == suc k) refl refl
         where
           by : (p q : Bool) → (regions_before others fork == k) ≡ p → (regions_before others fork == suc k) ≡ q → ForkIs fork
-          by true q is other = ForkIs.first_part root (tasks.same_number (regions_before others fork) k is)
-          by false true is other = ForkIs.second_part root (tasks.same_number (regions_before others fork) (suc k) other)
+          by true q is other = ForkIs.first_part root (same_number (regions_before others fork) k is)
+          by false true is other = ForkIs.second_part root (same_number (regions_before others fork) (suc k) other)
           by false false is other = ForkIs.unchanged (λ n s child lane.
               let child_is : child ≡ lane_of [] (regions_before others fork) n s = lane.child ∙ ap (λ (w : List Step). lane_of w (regions_before others fork) n s) root in
               record {
-                not_early = λ m within e. tasks.other_number (regions_before others fork) k is (tasks.differ_region k c span logs others cut (regions_before others fork) k n m s span (sym child_is ∙ e));
-                not_late = λ m within e. tasks.other_number (regions_before others fork) (suc k) other (tasks.differ_region k c span logs others cut (regions_before others fork) (suc k) n m s span (sym child_is ∙ e));
+                not_early = λ m within e. other_number (regions_before others fork) k is (tasks.differ_region k c span logs others cut (regions_before others fork) k n m s span (sym child_is ∙ e));
+                not_late = λ m within e. other_number (regions_before others fork) (suc k) other (tasks.differ_region k c span logs others cut (regions_before others fork) (suc k) n m s span (sym child_is ∙ e));
               })
       at (t ∷ rest) deep = ForkIs.unchanged (λ n s child lane.
           let long : length child ≡ length (t ∷ rest) + 1 = ap length lane.child ∙ (length_push fork.path (record { region = regions_before others fork; lane = n; span = s }) ∙ ap (λ (w : List Step). length w + 1) deep) in
@@ -167,9 +144,9 @@ module _ (k c span : ℕ) (logs others : Logs) (cut : IsCut k c span logs others
     each : (n : ℕ) (child : List Step) → IsLane others fork n s child → WasLane region n s child
 
   was_team : (fork : Node) (n s : ℕ) (child : List Step) → IsLane others fork n s child → ((n s : ℕ) (child : List Step) → IsLane others fork n s child → IsElsewhere k span child) → WasTeam fork s
-  was_team fork n s child lane elsewhere = by (origin fork.path)
+  was_team fork n s child lane elsewhere = by (origin (cut_number k others) fork.path)
     where
-      by : HasOrigin fork.path → WasTeam fork s
+      by : HasOrigin (cut_number k others) fork.path → WasTeam fork s
       by o =
           let was = was_region (cut_number k others) (cut_offset k c) logs others (tasks.were_forks k c span logs others cut) (tasks.keeps_teams k c span logs others cut) o.path child fork n s o.from lane in
           record {
@@ -200,10 +177,10 @@ module _ (k c span : ℕ) (logs others : Logs) (cut : IsCut k c span logs others
       at : ForkIs fork → IsTask others child
       at (ForkIs.first_part root is) =
           let e = early_is fork n s child lane root is in
-          some_record_of (others child) (subst (λ (w : List Step). EndsOnce (others w)) (sym e.1) (early_ends n e.0))
+          some_record (others child) (subst (λ (w : List Step). EndsOnce (others w)) (sym e.1) (early_ends n e.0))
       at (ForkIs.second_part root is) =
           let e = late_is fork n s child lane root is in
-          some_record_of (others child) (subst (λ (w : List Step). EndsOnce (others w)) (sym e.1) (lane_parts n e.0).1)
+          some_record (others child) (subst (λ (w : List Step). EndsOnce (others w)) (sym e.1) (lane_parts n e.0).1)
       at (ForkIs.unchanged elsewhere) =
           let team = was_team fork n s child lane elsewhere in
           let was = team.each n child lane in
@@ -284,7 +261,7 @@ module _ (k c span : ℕ) (logs others : Logs) (cut : IsCut k c span logs others
 
   pub other_tree : IsForkJoin others
   other_tree = record {
-    tasks = record { root = some_record_of (others []) root_ends; forked = cut.only };
+    tasks = record { root = some_record (others []) root_ends; forked = cut.only };
     ends = record { ended = ended_there; lanes = lane_there; same_barriers = level_there; no_root_barrier = root_level };
   }
 
@@ -309,15 +286,15 @@ module _ (k c span : ℕ) (logs others : Logs) (cut : IsCut k c span logs others
   }
 
   early_offset : (n : ℕ) (other : List Step) → other ≡ lane_of [] k n span → cut_offset k c other ≡ 0
-  early_offset n other is = ap (cut_offset k c) is ∙ rw (tasks.not_next k) refl
+  early_offset n other is = ap (cut_offset k c) is ∙ rw (not_next k) refl
 
   late_offset : (n : ℕ) (other : List Step) → other ≡ lane_of [] (suc k) n span → cut_offset k c other ≡ suc c
-  late_offset n other is = ap (cut_offset k c) is ∙ rw (tasks.number_itself (suc k)) refl
+  late_offset n other is = ap (cut_offset k c) is ∙ rw (number_itself (suc k)) refl
 
   back_stands : (v : Node) (r : Record) → record_at others v ≡ Some r → IsAccess r → (v.path ≡ [] → ⊥) → HasStandIn Back others logs v r
-  back_stands v r found access not_root = by (origins (suc (length v.path)) v.path (omega arith))
+  back_stands v r found access not_root = by (origin (cut_number k others) v.path)
     where
-      by : HasOrigin v.path → HasStandIn Back others logs v r
+      by : HasOrigin (cut_number k others) v.path → HasStandIn Back others logs v r
       by o = at (tasks.classify k c span logs others cut o.path v.path o.from (task_of v (record_there others v r found)))
         where
           at : tasks.Where k c span logs others cut o.path v.path → HasStandIn Back others logs v r
@@ -401,9 +378,6 @@ module _ (k c span : ℕ) (logs others : Logs) (cut : IsCut k c span logs others
   deep_number (t ∷ []) long m = absurd (omega arith)
   deep_number (t ∷ u ∷ rest) long m = refl
 
-  not_equal : (m n : ℕ) → (m ≡ n → ⊥) → (m == n) ≡ false
-  not_equal m n apart = grind arith
-
   -- the root of the cut run has this region
   record HasRootRegion (new n s : ℕ) : Type 0 where
     fork : Node
@@ -434,8 +408,8 @@ module _ (k c span : ℕ) (logs others : Logs) (cut : IsCut k c span logs others
         not_early = λ m within e. not_k (tasks.differ_region k c span logs others cut new k n m s span e);
         not_late = λ m within e. not_next (tasks.differ_region k c span logs others cut new (suc k) n m s span e);
       })
-      (rw (not_equal new (suc k) not_next) refl)
-      (λ m. rw (not_equal new (suc k) not_next) refl)
+      (rw (number_not new (suc k) not_next) refl)
+      (λ m. rw (number_not new (suc k) not_next) refl)
       found
 
   -- a lane of the region that is cut
@@ -455,14 +429,14 @@ module _ (k c span : ℕ) (logs others : Logs) (cut : IsCut k c span logs others
           → ((x.index < length l.first) × (slice_get l.first x.index ≡ Some r)) ⊎ ((m : ℕ) × (x.index ≡ length l.first + m) × (slice_get (l.barrier ∷ others (lane_of [] (suc k) n span)) m ≡ Some r)) → HasPart x r
       by l whole (inl (less, has)) =
           moved_part x r (lane_of [] k n span) 0 0 x.index (from k (undouble_early k k (omega arith))) (early_offset n (lane_of [] k n span) refl)
-          (λ m. rw (tasks.not_next k) (let none : m ≡ m + 0 = omega arith in none))
+          (λ m. rw (not_next k) (let none : m ≡ m + 0 = omega arith in none))
           (subst (λ (records : List Record). IsMoved 0 0 records (others (lane_of [] k n span)) x.index x.index r) (sym whole)
           (subst (λ (records : List Record). IsMoved 0 0 (l.first ++ l.barrier ∷ others (lane_of [] (suc k) n span)) records x.index x.index r) (sym l.early_is)
           (early_moved l.first (l.barrier ∷ others (lane_of [] (suc k) n span)) (l.ended ∷ []) x.index r less has)))
       by l whole (inr (zero, is, has)) = absurd (last l.barrier l.at_barrier has)
       by l whole (inr (suc j, is, has)) =
           moved_part x r (lane_of [] (suc k) n span) (suc c) (region_count l.first) j (from (suc k) (undouble_late k k (omega arith))) (late_offset n (lane_of [] (suc k) n span) refl)
-          (λ m. rw (tasks.number_itself (suc k)) (ap (λ (q : ℕ). m + q) (counts l)))
+          (λ m. rw (number_itself (suc k)) (ap (λ (q : ℕ). m + q) (counts l)))
           (subst (λ (i : ℕ). IsMoved (suc c) (region_count l.first) (logs x.path) (others (lane_of [] (suc k) n span)) i j r) (sym is)
           (subst (λ (records : List Record). IsMoved (suc c) (region_count l.first) records (others (lane_of [] (suc k) n span)) (length l.first + suc j) j r) (sym whole)
           (late_moved c l.first (others (lane_of [] (suc k) n span)) l.barrier j r l.at_barrier l.passed l.unlocked has)))

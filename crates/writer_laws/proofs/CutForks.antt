@@ -3,6 +3,7 @@ use Rattle.std.proofs.Common.{◌≡◌, ◌⊎◌, ℕ, zero, suc, ◌+◌, ◌
 use Rattle.std.specs.Prelude.{slice_get}
 use Rattle.std.proofs.lemmas.List.Sums.{sum_by-append}
 use Rattle.log_format.specs.declared.record.Record.{Record}
+use Rattle.log_format.specs.declared.record.Kind.TheVariants.{End}
 use Rattle.race_model.specs.Trace.{is_region_kind, is_barrier_kind, region_count, barrier_count}
 use Rattle.writer_laws.specs.Places.{Fork, forks_from}
 use Rattle.writer_laws.specs.Cutting.{undouble}
@@ -120,3 +121,13 @@ doubled_get (z ∷ xs) ys x y (suc k) (suc old) zero long (inl (less, same)) fou
 doubled_get (z ∷ xs) ys x y (suc k) (suc old) zero long (inr (more, same)) found = absurd (omega arith)
 doubled_get (z ∷ xs) ys x y (suc k) (suc old) (suc new) long (inl (less, same)) found = doubled_get xs ys x y k old new (omega arith) (inl (omega arith, omega arith)) found
 doubled_get (z ∷ xs) ys x y (suc k) (suc old) (suc new) long (inr (more, same)) found = doubled_get xs ys x y k old new (omega arith) (inr (omega arith, omega arith)) found
+
+pub some_fork : (b : ℕ) (records : List Record) (r : ℕ) (f : Fork) → slice_get (forks_from b records) r ≡ Some f → 0 < length records
+some_fork b [] r f found = cc
+some_fork b (x ∷ records) r f found = omega arith
+
+pub not_raised : (f : Fork) → f ≡ raised f 0
+not_raised f = let none : f.barriers ≡ f.barriers + 0 = omega arith in λ i. record { span = f.span; barriers = none i }
+
+pub no_fork : (b : ℕ) (r : Record) → r.kind ≡ End → forks_from b (r ∷ []) ≡ []
+no_fork b r ends = rw ends refl

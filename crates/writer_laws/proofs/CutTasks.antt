@@ -18,19 +18,8 @@ use Rattle.writer_laws.specs.Places.{Fork, forks, forks_from}
 use Rattle.writer_laws.specs.Renumbering.{IsFrom, WereForks, KeepsTeams}
 use Rattle.writer_laws.specs.Cutting.{undouble, cut_number, cut_offset, IsLaneCut, IsElsewhere, IsCut}
 use Rattle.writer_laws.proofs.Forks.{fork_listed, region_step, barrier_step}
-use Rattle.writer_laws.proofs.CutForks.{barriers_both, regions_both, forks_both, forks_length, raised, forks_raised, get_either, undoubled, undouble_once, undouble_early, undouble_late}
-
-pub same_number : (m n : ℕ) → (m == n) ≡ true → m ≡ n
-same_number m n e = grind arith
-
-pub other_number : (m n : ℕ) → (m == n) ≡ false → m ≡ n → ⊥
-other_number m n e same = grind arith
-
-pub number_itself : (n : ℕ) → (n == n) ≡ true
-number_itself n = grind arith
-
-pub not_next : (n : ℕ) → (n == suc n) ≡ false
-not_next n = grind arith
+use Rattle.writer_laws.proofs.Numbers.{same_number, number_itself, other_number, not_next}
+use Rattle.writer_laws.proofs.CutForks.{barriers_both, regions_both, forks_both, forks_length, raised, forks_raised, get_either, undoubled, undouble_once, undouble_early, undouble_late, some_fork, not_raised, no_fork}
 
 -- a fork is one of the log's
 pub region_within : (logs : Logs) (f : Node) (n s : ℕ) (child : List Step) → IsLane logs f n s child → regions_before logs f < region_count (logs f.path)
@@ -202,16 +191,6 @@ module _ (k c span : ℕ) (logs others : Logs) (cut : IsCut k c span logs others
   classify _ _ (IsFrom.lane path other above beside r n s up parts is) task =
       subst (λ (p : List Step). Where path p) (sym is) (in_lane path above beside r n s up parts (subst (λ (p : List Step). IsTask others p) is task))
 
-  some_record : (b : ℕ) (records : List Record) (r : ℕ) (f : Fork) → slice_get (forks_from b records) r ≡ Some f → 0 < length records
-  some_record b [] r f found = cc
-  some_record b (x ∷ records) r f found = omega arith
-
-  not_raised : (f : Fork) → f ≡ raised f 0
-  not_raised f = let none : f.barriers ≡ f.barriers + 0 = omega arith in λ i. record { span = f.span; barriers = none i }
-
-  no_fork : (b : ℕ) (r : Record) → r.kind ≡ End → forks_from b (r ∷ []) ≡ []
-  no_fork b r ends = rw ends refl
-
   past_barrier : (b : ℕ) (r : Record) (rest : List Record) → r.kind ≡ Barrier → forks_from b (r ∷ rest) ≡ forks_from (b + 1) rest
   past_barrier b r rest meets = rw meets refl
 
@@ -256,7 +235,7 @@ module _ (k c span : ℕ) (logs others : Logs) (cut : IsCut k c span logs others
       (get_right (forks l.first) (forks_from (0 + suc c) (others (late_lane n))) r ∙ forks_raised 0 (suc c) (others (late_lane n)) r f found))
 
   pub were_forks : WereForks (cut_number k others) (cut_offset k c) logs others
-  were_forks path other r f from found = at (classify path other from (some_record 0 (others other) r f found))
+  were_forks path other r f from found = at (classify path other from (some_fork 0 (others other) r f found))
     where
       at : Where path other → slice_get (forks (logs path)) (cut_number k others other r) ≡ Some (raised f (cut_offset k c other))
       at (Where.root p o) =

@@ -1,9 +1,8 @@
 -- Small runs are computed: whether they are fork-join runs, whether two of their records are unordered, and that a pair isn't theirs.
-use Rattle.std.proofs.Common.{◌≡◌, ◌⊎◌, ℕ, zero, suc, ◌+◌, ◌-◌, ◌<◌, ◌≤◌, Bool, true, false, not, ◌&&◌, cond, List, [], ◌∷◌, ◌++◌, length, take, Option, Some, None, refl, sym, ap, subst, arith, ◌∙◌, inl, inr}
-use Rattle.std.specs.Prelude.{slice_get, Contains, All, min, max, ◌==◌}
+use Rattle.std.proofs.Common.{◌≡◌, ◌⊎◌, ℕ, zero, suc, ◌+◌, ◌-◌, ◌<◌, Bool, true, false, not, ◌&&◌, cond, List, [], ◌∷◌, ◌++◌, length, take, Option, Some, None, refl, sym, ap, subst, arith, ◌∙◌, inl, inr}
+use Rattle.std.specs.Prelude.{slice_get, Contains, min, max, ◌==◌}
 use Rattle.std.proofs.lemmas.Bool.{and_parts}
 use Rattle.std.proofs.lemmas.Option.{slice_get_within, same_Some}
-use Rattle.std.proofs.lemmas.List.Elements.{All-cons, All-nil}
 use Rattle.sw_base.specs.declared.path.Step.{Step}
 use Rattle.sw_base.proofs.Lists.{get_seam}
 use Rattle.log_format.specs.declared.record.Record.{Record}
@@ -16,26 +15,18 @@ use Rattle.race_model.specs.Race.{IsChange, SharesByte, IsUnordered, IsRacePair,
 use Rattle.race_model.specs.ForkJoin.{IsForkJoin, IsTask, EndsOnce, WasForked}
 use Rattle.race_model.proofs.TraceLogs.{find_task, record_there}
 use Rattle.counted_order.specs.Counting.{IsAbove}
-use Rattle.counted_order.specs.Parting.{PartInLanes, HasPassed}
+use Rattle.counted_order.specs.Parting.{PartInLanes}
 use Rattle.counted_order.proofs.Above.{HangsFrom, split}
 use Rattle.counted_order.proofs.Parted.{level}
 use Rattle.counted_order.proofs.Paths.{hangs_path, unordered_parts, parts_unordered}
 use Rattle.writer_laws.specs.Places.{Fork, forks}
 use Rattle.writer_laws.proofs.Ends.{NoEnd, ends_here, ends_later}
+use Rattle.writer_laws.proofs.Numbers.{same_number, number_is, number_not}
 use Rattle.writer_laws.proofs.Forks.{fork_listed, find_fork}
 
 true_or_not : (b : Bool) → (b ≡ true) ⊎ (b ≡ false)
 true_or_not true = inl refl
 true_or_not false = inr refl
-
-same_number : (m n : ℕ) → (m == n) ≡ true → m ≡ n
-same_number m n e = grind arith
-
-number_is : (m n : ℕ) → m ≡ n → (m == n) ≡ true
-number_is m n e = grind arith
-
-number_not : (m n : ℕ) → (m ≡ n → ⊥) → (m == n) ≡ false
-number_not m n e = grind arith
 
 both_true : (a b : Bool) → a ≡ true → b ≡ true → (a && b) ≡ true
 both_true a b e f = rw (e, f) refl

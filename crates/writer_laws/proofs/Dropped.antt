@@ -9,15 +9,12 @@ use Rattle.race_model.specs.Trace.{IsThere}
 use Rattle.race_model.specs.ForkJoin.{IsForkJoin}
 use Rattle.log_format.specs.declared.record.Kind.TheVariants.{Read, Write}
 use Rattle.writer_laws.specs.Places.{forks, ForkAlike, IsAtPlace}
-use Rattle.writer_laws.specs.StandIns.{Covers, HasStandIn, IsReplaced}
+use Rattle.writer_laws.specs.StandIns.{HasStandIn, IsReplaced}
 use Rattle.writer_laws.specs.Dropping.{MayBeDropped, Drops, DropsAtRoot}
 use Rattle.race_model.proofs.TraceLogs.{record_there}
 use Rattle.writer_laws.proofs.Kept.{IsPlaced, LeavesAccesses, Stays, stays, comes, forks_kept}
-use Rattle.writer_laws.proofs.Replaced.{no_pair_lost}
+use Rattle.writer_laws.proofs.Replaced.{covers_itself, no_pair_lost}
 use Rattle.writer_laws.proofs.Unordered.{alike_back, places_carry, root_ordered}
-
-covers_itself : (r : Record) → Covers r r
-covers_itself r = record { same_line = refl; bytes = λ byte has. has; kind = inl refl }
 
 module _ (keep : Node → Bool) (logs others : Logs) (drops : Drops keep logs others) where
   abbrev pub keeps : List Step → ℕ → Bool

@@ -1,16 +1,12 @@
 -- Cases in which a premise of dropping isn't met, and a pair is lost.
-use Rattle.std.proofs.Common.{◌≡◌, ◌⊎◌, ℕ, Bool, true, false, List, [], ◌∷◌, Some, refl, sym, ap, subst, arith, ◌∙◌, inl, inr}
-use Rattle.std.specs.Prelude.{slice_get, Contains}
+use Rattle.std.proofs.Common.{◌≡◌, ℕ, false, [], ◌∷◌, Some, refl, sym, subst, arith, ◌∙◌, inl, inr}
 use Rattle.std.proofs.lemmas.Option.{same_Some}
 use Rattle.log_format.specs.declared.record.Record.{Record}
-use Rattle.log_format.specs.declared.record.Kind.TheVariants.{Read, Write, Lock, Unlock, Barrier, Region, End}
-use Rattle.race_model.specs.Trace.{Trace, Logs, Node, logs_of, record_at}
-use Rattle.race_model.specs.Race.{IsAccess, HasByte, held_at}
-use Rattle.writer_laws.specs.Cases.{Premise, Meets, HasAllBut, DropsAllBut, LosesWithout, LosesPair, access, of_mutex, mark, fork, lane, two_lanes, all_but}
-use Rattle.writer_laws.proofs.Computed.{AreKept, kept_logs, left_out, part_at_once, pair_of, loses}
-
-no_mutex : {P : Type 0} (m : ℕ) → Contains [] m → P
-no_mutex m (k, within, same) = absurd (omega arith)
+use Rattle.log_format.specs.declared.record.Kind.TheVariants.{Read, Write, Lock, Unlock, Barrier, End}
+use Rattle.race_model.specs.Trace.{Trace, Node, logs_of, record_at}
+use Rattle.race_model.specs.Race.{IsAccess}
+use Rattle.writer_laws.specs.Cases.{Premise, Meets, HasAllBut, DropsAllBut, LosesWithout, access, of_mutex, mark, lane, two_lanes, all_but}
+use Rattle.writer_laws.proofs.Computed.{AreKept, kept_logs, left_out, no_mutex, part_at_once, pair_of, loses}
 
 -- one access is left out of a run, and another one is kept for it
 drops_one : (p : Premise) (trace other : Trace) (x : Node) (r : Record) → AreKept (all_but x.path x.index) trace other → record_at (logs_of trace) x ≡ Some r → IsAccess r

@@ -1,5 +1,5 @@
 -- Runs whose records are guarded alike have the same race pairs.
-use Rattle.std.proofs.Common.{◌≡◌, ◌↔◌, ℕ, zero, suc, ◌+◌, ◌<◌, Bool, true, false, cond, List, [], ◌∷◌, ◌++◌, length, take, Some, refl, sym, ap, subst, arith, ◌∙◌, inl, inr}
+use Rattle.std.proofs.Common.{◌≡◌, ◌↔◌, ℕ, zero, suc, ◌+◌, ◌<◌, Bool, true, false, cond, List, [], ◌∷◌, length, take, Some, refl, sym, ap, subst, arith, ◌∙◌, inl, inr}
 use Rattle.std.specs.Prelude.{slice_get, Contains}
 use Rattle.std.proofs.lemmas.Option.{slice_get_within}
 use Rattle.sw_base.specs.declared.path.Step.{Step}
@@ -11,7 +11,7 @@ use Rattle.race_model.specs.Trace.{Logs, Node, record_at, is_region_kind, is_bar
 use Rattle.race_model.specs.Race.{IsAccess, IsRacePair, held_after, held_after_kind}
 use Rattle.race_model.specs.ForkJoin.{IsForkJoin, IsTask, EndsOnce}
 use Rattle.writer_laws.specs.Places.{Fork, forks_from, with_fork, ForkAlike, IsAtPlace}
-use Rattle.writer_laws.specs.StandIns.{Covers, HasStandIn, IsReplaced}
+use Rattle.writer_laws.specs.StandIns.{HasStandIn, IsReplaced}
 use Rattle.writer_laws.specs.Guards.{Guarded, is_mutex_kind, guarded, guarded_from, AreGuardedAlike, DifferInLocks}
 use Rattle.writer_laws.proofs.Forks.{barrier_step}
 use Rattle.writer_laws.proofs.Unordered.{places_carry}

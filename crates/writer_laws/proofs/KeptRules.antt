@@ -1,5 +1,5 @@
 -- A trace keeps the rules of a folder exactly where it is that of a fork-join run, with the rows of an index, and each log keeps its own rules.
-use Rattle.std.proofs.Common.{◌≡◌, ◌≢◌, ◌⊎◌, ◌↔◌, inl, inr, ℕ, zero, suc, ◌+◌, ◌<◌, ◌≤◌, false, cond, List, [], ◌∷◌, ◌++◌, length, take, Option, Some, None, refl, sym, ap, subst, ◌∙◌, arith, get_or}
+use Rattle.std.proofs.Common.{◌≡◌, ◌≢◌, ◌⊎◌, ◌↔◌, inl, inr, ℕ, zero, suc, ◌+◌, ◌<◌, ◌≤◌, cond, List, [], ◌∷◌, ◌++◌, length, take, Option, Some, None, refl, sym, ap, subst, ◌∙◌, arith, get_or}
 use Rattle.std.specs.Prelude.{slice_get, Contains, map, All}
 use Rattle.std.proofs.lemmas.List.{length-take-le, length_push, same_from_push, take_at}
 use Rattle.std.proofs.lemmas.List.Sums.{sum_by-take-le}
@@ -16,7 +16,7 @@ use Rattle.race_model.specs.declared.why.RecordWhy.{RecordWhy}
 use Rattle.race_model.specs.declared.why.RecordWhy.TheVariants as log
 use Rattle.race_model.specs.Row.{Row}
 use Rattle.race_model.specs.Listing.{IsListing, lane_of}
-use Rattle.race_model.specs.Trace.{TaskLog, Trace, Node, logs_of, record_at, regions_before, region_count, barrier_count, is_region_kind, is_barrier_kind}
+use Rattle.race_model.specs.Trace.{TaskLog, Trace, Node, logs_of, record_at, regions_before, region_count, barrier_count, is_barrier_kind}
 use Rattle.race_model.specs.Order.{IsLane}
 use Rattle.race_model.specs.Race.{held_after}
 use Rattle.race_model.specs.IndexFault.{AreRows}

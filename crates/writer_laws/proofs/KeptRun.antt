@@ -1,14 +1,12 @@
 -- What is left of a fork-join run is one.
-use Rattle.std.proofs.Common.{◌≡◌, ℕ, suc, ◌+◌, ◌<◌, Bool, true, false, cond, List, [], ◌∷◌, ◌++◌, length, refl, sym, ap, subst, arith, ◌∙◌, inl, inr}
+use Rattle.std.proofs.Common.{◌≡◌, ℕ, suc, ◌+◌, ◌<◌, Bool, true, false, cond, List, [], ◌∷◌, ◌++◌, length, refl, sym, ap, subst, arith, ◌∙◌}
 use Rattle.std.specs.Prelude.{All}
-use Rattle.std.proofs.lemmas.List.{length_push}
-use Rattle.std.proofs.lemmas.List.Elements.{All-head, All-tail, All-cons}
+use Rattle.std.proofs.lemmas.List.Elements.{All-head, All-tail}
 use Rattle.sw_base.specs.declared.path.Step.{Step}
 use Rattle.log_format.specs.declared.record.Record.{Record}
 use Rattle.log_format.specs.declared.record.Kind.TheVariants.{End}
 use Rattle.race_model.specs.Trace.{Logs, Node, regions_before, barriers_before, is_barrier_kind, barrier_count}
 use Rattle.race_model.specs.Order.{IsLane}
-use Rattle.race_model.specs.Race.{IsAccess}
 use Rattle.race_model.specs.ForkJoin.{IsForkJoin, IsTask, EndsOnce, WasForked}
 use Rattle.writer_laws.specs.Places.{forks, ForkAlike}
 use Rattle.writer_laws.specs.Dropping.{only_kept, Drops}

@@ -16,6 +16,7 @@ pub mod Kept
 pub mod KeptRules
 pub mod KeptRun
 pub mod Nested
+pub mod Numbers
 pub mod Origins
 pub mod Renumbered
 pub mod Replaced

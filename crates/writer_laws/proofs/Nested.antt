@@ -1,30 +1,29 @@
 -- Mutexes nest in what is written where they do in the run.
-use Rattle.std.proofs.Common.{◌≡◌, ◌⊎◌, ℕ, zero, suc, ◌+◌, append-nil, ◌<◌, List, [], ◌∷◌, ◌++◌, length, take, Some, refl, sym, ap, ap₂, subst, arith, ◌∙◌, inl, inr}
+use Rattle.std.proofs.Common.{◌≡◌, ◌⊎◌, ℕ, zero, suc, ◌+◌, append-nil, ◌<◌, List, [], ◌∷◌, ◌++◌, length, take, Some, refl, sym, ap, subst, arith, ◌∙◌, inl, inr}
 use Rattle.std.specs.Prelude.{slice_get, Bool, Contains, ◌≢◌}
-use Rattle.std.proofs.lemmas.List.{take-append-le}
 use Rattle.std.proofs.lemmas.Option.{slice_get_within}
 use Rattle.sw_base.specs.declared.path.Step.{Step}
-use Rattle.sw_base.proofs.Lists.{get_more, get_right}
+use Rattle.sw_base.proofs.Lists.{get_right}
 use Rattle.log_format.specs.declared.format.Format.{Format}
 use Rattle.log_format.specs.declared.record.Record.{Record}
 use Rattle.log_format.specs.declared.record.Kind.{Kind}
-use Rattle.log_format.specs.declared.record.Kind.TheVariants.{Lock, Unlock, Barrier, Region, End}
-use Rattle.race_model.specs.Trace.{Logs, Node, record_at, region_count}
+use Rattle.log_format.specs.declared.record.Kind.TheVariants.{Barrier, Region, End}
+use Rattle.race_model.specs.Trace.{Logs, Node, region_count}
 use Rattle.race_model.specs.Listing.{lane_of}
 use Rattle.race_model.specs.Race.{held_after, held_after_kind, held_at}
 use Rattle.race_model.specs.ForkJoin.{IsForkJoin, IsTask}
 use Rattle.race_model.proofs.Held.{held_after-append}
-use Rattle.writer_laws.specs.Cutting.{IsCut}
+use Rattle.writer_laws.specs.Cutting.{cut_number, IsCut}
 use Rattle.writer_laws.specs.Dropping.{Drops}
 use Rattle.writer_laws.specs.Rules.{IsNested, AreNested, AreTabled}
-use Rattle.writer_laws.specs.Splitting.{IsSplit}
+use Rattle.writer_laws.specs.Splitting.{later_number, IsSplit}
 use Rattle.writer_laws.specs.Values.{DifferInValues}
-use Rattle.writer_laws.proofs.Cut as cutting
 use Rattle.writer_laws.proofs.CutForks.{get_either}
 use Rattle.writer_laws.proofs.CutRecords.{early_moved, late_moved, take_past}
 use Rattle.writer_laws.proofs.CutTasks as tasks
 use Rattle.writer_laws.proofs.Dropped.{keeps, leaves}
 use Rattle.writer_laws.proofs.Kept.{IsPlaced, comes}
+use Rattle.writer_laws.proofs.Origins.{HasOrigin, origin}
 use Rattle.writer_laws.proofs.Split as splitting
 use Rattle.writer_laws.proofs.Valued.{beside, all_back}
 
@@ -160,12 +159,12 @@ module _ (k c span : ℕ) (logs others : Logs) (cut : IsCut k c span logs others
       (from_whole logs nested (lane_of [] k n span) (l.first ++ l.barrier ∷ others (lane_of [] (suc k) n span)) l.whole_is (length l.first + suc i) r m.found)
 
   pub cut_nested : AreNested others
-  cut_nested x r found = by (cutting.origin k c span logs others cut tree x.path)
+  cut_nested x r found = by (origin (cut_number k others) x.path)
     where
       task : IsTask others x.path
       task = let within = slice_get_within (others x.path) x.index r found in omega arith
 
-      by : cutting.HasOrigin k c span logs others cut tree x.path → IsNested (held_at others x) r
+      by : HasOrigin (cut_number k others) x.path → IsNested (held_at others x) r
       by o = at (tasks.classify k c span logs others cut o.path x.path o.from task)
         where
           at : tasks.Where k c span logs others cut o.path x.path → IsNested (held_at others x) r
@@ -186,7 +185,7 @@ module _ (logs one two : Logs) (tree : IsForkJoin logs) (split : IsSplit logs on
   k = region_count split.before
 
   pub first_nested : AreNested one
-  first_nested x r found = by (splitting.origin 0 logs one tree (splitting.one_ends logs one two tree split) (splitting.one_level logs one two tree split) split.first_forked split.first_tasks (splitting.one_regions logs one two tree split) x.path)
+  first_nested x r found = by (origin (later_number 0) x.path)
     where
       task : IsTask one x.path
       task = let within = slice_get_within (one x.path) x.index r found in omega arith
@@ -203,7 +202,7 @@ module _ (logs one two : Logs) (tree : IsForkJoin logs) (split : IsSplit logs on
           (subst (λ (ms : List ℕ). IsNested ms r) (sym unlocked) (subst (λ (t : Record). IsNested [] t) same (end_nested split.ended split.ends))))
       root i (inr (suc m, is, has)) = cc
 
-      by : splitting.HasOrigin 0 logs one tree (splitting.one_ends logs one two tree split) (splitting.one_level logs one two tree split) split.first_forked split.first_tasks (splitting.one_regions logs one two tree split) x.path → IsNested (held_at one x) r
+      by : HasOrigin (later_number 0) x.path → IsNested (held_at one x) r
       by o = at (splitting.classify 0 logs one tree (splitting.one_ends logs one two tree split) (splitting.one_level logs one two tree split) split.first_forked split.first_tasks (splitting.one_regions logs one two tree split) o.path x.path o.from task)
         where
           at : splitting.Where 0 logs one tree (splitting.one_ends logs one two tree split) (splitting.one_level logs one two tree split) split.first_forked split.first_tasks (splitting.one_regions logs one two tree split) o.path x.path → IsNested (held_at one x) r
@@ -214,7 +213,7 @@ module _ (logs one two : Logs) (tree : IsForkJoin logs) (split : IsSplit logs on
           at (splitting.Where.kept deep same) = from_whole logs nested o.path (one x.path) (sym same) x.index r found
 
   pub second_nested : AreNested two
-  second_nested x r found = by (splitting.origin k logs two tree (splitting.two_ends logs one two tree split) (splitting.two_level logs one two tree split) split.second_forked split.second_tasks (splitting.two_regions logs one two tree split) x.path)
+  second_nested x r found = by (origin (later_number k) x.path)
     where
       task : IsTask two x.path
       task = let within = slice_get_within (two x.path) x.index r found in omega arith
@@ -225,7 +224,7 @@ module _ (logs one two : Logs) (tree : IsForkJoin logs) (split : IsSplit logs on
           subst (λ (ms : List ℕ). IsNested ms r)
           (ap (held_after []) (take_behind split.before split.after i) ∙ (held_after-append [] split.before (take i split.after) ∙ ap (λ (ms : List ℕ). held_after ms (take i split.after)) unlocked)) old
 
-      by : splitting.HasOrigin k logs two tree (splitting.two_ends logs one two tree split) (splitting.two_level logs one two tree split) split.second_forked split.second_tasks (splitting.two_regions logs one two tree split) x.path → IsNested (held_at two x) r
+      by : HasOrigin (later_number k) x.path → IsNested (held_at two x) r
       by o = at (splitting.classify k logs two tree (splitting.two_ends logs one two tree split) (splitting.two_level logs one two tree split) split.second_forked split.second_tasks (splitting.two_regions logs one two tree split) o.path x.path o.from task)
         where
           at : splitting.Where k logs two tree (splitting.two_ends logs one two tree split) (splitting.two_level logs one two tree split) split.second_forked split.second_tasks (splitting.two_regions logs one two tree split) o.path x.path → IsNested (held_at two x) r

@@ -1,5 +1,5 @@
 -- Where stand-ins replace accesses, no race pair is lost.
-use Rattle.std.proofs.Common.{◌≡◌, ◌⊎◌, ℕ, sym, ap₂, ◌∙◌, inl, inr}
+use Rattle.std.proofs.Common.{◌≡◌, ◌⊎◌, ℕ, refl, sym, ap₂, ◌∙◌, inl, inr}
 use Rattle.std.specs.Prelude.{min, max}
 use Rattle.log_format.specs.declared.record.Record.{Record}
 use Rattle.log_format.specs.declared.record.Kind.TheVariants.{Read, Write, Update}
@@ -10,6 +10,9 @@ use Rattle.race_model.proofs.TraceLogs.{record_there}
 use Rattle.writer_laws.specs.Carrying.{Carries}
 use Rattle.writer_laws.specs.StandIns.{Covers, HasStandIn, IsReplaced}
 use Rattle.writer_laws.proofs.Carried.{unordered_too}
+
+pub covers_itself : (r : Record) → Covers r r
+covers_itself r = record { same_line = refl; bytes = λ byte has. has; kind = inl refl }
 
 covers_change : (r s : Record) → Covers r s → IsChange r → IsChange s
 covers_change r s c changes = at c.kind changes

@@ -7,7 +7,7 @@ use Rattle.std.proofs.lemmas.Option.{slice_get_within}
 use Rattle.sw_base.specs.declared.path.Step.{Step}
 use Rattle.sw_base.proofs.Lists.{get_left, get_more, get_right}
 use Rattle.log_format.specs.declared.record.Record.{Record}
-use Rattle.log_format.specs.declared.record.Kind.TheVariants.{Region, End}
+use Rattle.log_format.specs.declared.record.Kind.TheVariants.{Region}
 use Rattle.race_model.specs.Trace.{Logs, Node, record_at, regions_before, barriers_before, region_count, barrier_count}
 use Rattle.race_model.specs.Listing.{lane_of}
 use Rattle.race_model.specs.Order.{IsLane}
@@ -19,16 +19,14 @@ use Rattle.counted_order.proofs.Paths.{unordered_parts}
 use Rattle.writer_laws.specs.Places.{Fork, forks, forks_from}
 use Rattle.writer_laws.specs.Renumbering.{IsFrom, AreForked, ComesFrom, WereForks, KeepsTeams}
 use Rattle.writer_laws.specs.Splitting.{later_number, KeepsLogs, IsSplit}
-use Rattle.writer_laws.specs.StandIns.{Covers, HasStandIn, IsReplaced}
-use Rattle.writer_laws.proofs.Ends.{NoEnd, ends_here, ends_after, ends_apart, some_record as some_record_of}
+use Rattle.writer_laws.specs.StandIns.{HasStandIn, IsReplaced}
+use Rattle.writer_laws.proofs.Ends.{NoEnd, ends_here, ends_after, ends_apart, some_record}
 use Rattle.writer_laws.proofs.Forks.{fork_listed, find_fork, barrier_step}
 use Rattle.writer_laws.proofs.Renumbered.{was_region, was_lane, carried, carried_back}
-use Rattle.writer_laws.proofs.Replaced.{pair_by, no_pair_lost}
-use Rattle.writer_laws.proofs.CutForks.{barriers_both, forks_both, forks_length, raised}
+use Rattle.writer_laws.proofs.Origins.{HasOrigin, origin}
+use Rattle.writer_laws.proofs.Replaced.{covers_itself, pair_by, no_pair_lost}
+use Rattle.writer_laws.proofs.CutForks.{barriers_both, forks_both, forks_length, raised, some_fork, not_raised, no_fork}
 use Rattle.writer_laws.proofs.Unordered.{root_ordered}
-
-covers_itself : (r : Record) → Covers r r
-covers_itself r = record { same_line = refl; bytes = λ byte has. has; kind = inl refl }
 
 -- no part begins in the middle of a task
 abbrev no_offset : List Step → ℕ
@@ -52,13 +50,6 @@ module _ (k : ℕ) (logs part : Logs) (tree : IsForkJoin logs) (root_ends : Ends
   abbrev Back : Node → Node → Type 0
   Back v x = ComesFrom (later_number k) no_offset logs part x v
 
-  not_raised : (f : Fork) → f ≡ raised f 0
-  not_raised f = let none : f.barriers ≡ f.barriers + 0 = omega arith in λ i. record { span = f.span; barriers = none i }
-
-  some_record : (b : ℕ) (records : List Record) (r : ℕ) (f : Fork) → slice_get (forks_from b records) r ≡ Some f → 0 < length records
-  some_record b [] r f found = cc
-  some_record b (x ∷ records) r f found = omega arith
-
   deep_number : (other : List Step) (r : ℕ) → (other ≡ [] → ⊥) → later_number k other r ≡ r
   deep_number [] r deep = absurd (deep refl)
   deep_number (t ∷ other) r deep = refl
@@ -76,7 +67,7 @@ module _ (k : ℕ) (logs part : Logs) (tree : IsForkJoin logs) (root_ends : Ends
       Where.kept (λ e. not_both_empty other beside (record { region = r; lane = n; span = s }) e is) (tasks path other forked.fork n s (IsFrom.lane path other above beside r n s up parts is) lane)
 
   were_forks : WereForks (later_number k) no_offset logs part
-  were_forks path other r f from found = at (classify path other from (some_record 0 (part other) r f found))
+  were_forks path other r f from found = at (classify path other from (some_fork 0 (part other) r f found))
     where
       at : Where path other → slice_get (forks (logs path)) (later_number k other r) ≡ Some (raised f 0)
       at (Where.root p o) =
@@ -120,33 +111,11 @@ module _ (k : ℕ) (logs part : Logs) (tree : IsForkJoin logs) (root_ends : Ends
         (number_once f.path (regions_before part f) (regions_before part g) (number ∙ ap (λ (p : List Step). later_number k p (regions_before part g)) (sym same)));
   }
 
-  -- every path is from one
-  pub record HasOrigin (other : List Step) : Type 0 where
-    pub path : List Step
-    pub from : IsFrom (later_number k) path other
-
-  origins : (d : ℕ) (other : List Step) → length other < d → HasOrigin other
-  origins zero other less = absurd (omega arith)
-  origins (suc d) other less = at (has_last other) (origins d)
-    where
-      at : (other ≡ []) ⊎ HasLast other → ((q : List Step) → length q < d → HasOrigin q) → HasOrigin other
-      at (inl e) rec = record { path = []; from = IsFrom.root [] other refl e }
-      at (inr l) rec =
-          let shorter : length l.prefix < d = (let long : length other ≡ length l.prefix + 1 = ap length l.parts ∙ length_push l.prefix l.last in omega arith) in
-          let o = rec l.prefix shorter in
-          record {
-            path = lane_of o.path (later_number k l.prefix l.last.region) l.last.lane l.last.span;
-            from = IsFrom.lane (lane_of o.path (later_number k l.prefix l.last.region) l.last.lane l.last.span) other o.path l.prefix l.last.region l.last.lane l.last.span o.from refl l.parts;
-          }
-
   -- a part is a fork-join run again
-  pub origin : (other : List Step) → HasOrigin other
-  origin other = origins (suc (length other)) other (omega arith)
-
   ended_there : (other : List Step) → IsTask part other → EndsOnce (part other)
-  ended_there other task = by (origin other)
+  ended_there other task = by (origin (later_number k) other)
     where
-      by : HasOrigin other → EndsOnce (part other)
+      by : HasOrigin (later_number k) other → EndsOnce (part other)
       by o = at (classify o.path other o.from task)
         where
           at : Where o.path other → EndsOnce (part other)
@@ -164,9 +133,9 @@ module _ (k : ℕ) (logs part : Logs) (tree : IsForkJoin logs) (root_ends : Ends
     each : (n : ℕ) (child : List Step) → IsLane part fork n s child → WasLane fork region n s child
 
   was_team : (fork : Node) (n s : ℕ) (child : List Step) → IsLane part fork n s child → WasTeam fork s
-  was_team fork n s child lane = by (origin fork.path)
+  was_team fork n s child lane = by (origin (later_number k) fork.path)
     where
-      by : HasOrigin fork.path → WasTeam fork s
+      by : HasOrigin (later_number k) fork.path → WasTeam fork s
       by o =
           let was = was_region (later_number k) no_offset logs part were_forks keeps_teams o.path child fork n s o.from lane in
           record {
@@ -181,7 +150,7 @@ module _ (k : ℕ) (logs part : Logs) (tree : IsForkJoin logs) (root_ends : Ends
 
   pub part_run : IsForkJoin part
   part_run = record {
-    tasks = record { root = some_record_of (part []) root_ends; forked = part_forked };
+    tasks = record { root = some_record (part []) root_ends; forked = part_forked };
     ends = record {
       ended = ended_there;
       lanes = λ fork n s path lane.
@@ -212,9 +181,9 @@ module _ (k : ℕ) (logs part : Logs) (tree : IsForkJoin logs) (root_ends : Ends
   }
     where
       stands : (v : Node) (r : Record) → record_at part v ≡ Some r → (v.path ≡ [] → ⊥) → HasStandIn Back part logs v r
-      stands v r found not_root = by (origins (suc (length v.path)) v.path (omega arith))
+      stands v r found not_root = by (origin (later_number k) v.path)
         where
-          by : HasOrigin v.path → HasStandIn Back part logs v r
+          by : HasOrigin (later_number k) v.path → HasStandIn Back part logs v r
           by o = at (classify o.path v.path o.from (let here = record_there part v r found in omega arith))
             where
               at : Where o.path v.path → HasStandIn Back part logs v r
@@ -350,9 +319,6 @@ module _ (logs one two : Logs) (tree : IsForkJoin logs) (split : IsSplit logs on
       let both : barrier_count (logs []) ≡ barrier_count split.before + barrier_count split.after = ap barrier_count split.root ∙ barriers_both split.before split.after in
       let zero_before : 0 + barrier_count split.before ≡ 0 = omega arith in
       ap forks split.root ∙ (forks_both 0 split.before split.after ∙ ap (λ (b : ℕ). fore ++ forks_from b split.after) zero_before)
-
-  no_fork : (b : ℕ) (r : Record) → r.kind ≡ End → forks_from b (r ∷ []) ≡ []
-  no_fork b r ends = rw ends refl
 
   one_forks : forks (one []) ≡ fore
   one_forks = ap forks split.first_root ∙ (forks_both 0 split.before (split.ended ∷ [])

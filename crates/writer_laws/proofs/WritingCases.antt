@@ -1,10 +1,12 @@
 -- Cases in which a premise of the other laws isn't met.
-use Rattle.std.proofs.Common.{◌≡◌, ◌⊎◌, ℕ, Bool, true, List, [], ◌∷◌, Some, refl, sym, ap, subst, arith, ◌∙◌, inl, inr}
+use Rattle.std.proofs.Common.{◌≡◌, ℕ, true, List, [], ◌∷◌, Some, refl, subst, arith, inl, inr}
 use Rattle.std.specs.Prelude.{Contains, map}
 use Rattle.sw_base.specs.declared.path.Step.{Step}
 use Rattle.log_format.specs.declared.record.Record.{Record}
-use Rattle.log_format.specs.declared.record.Kind.TheVariants.{Read, Write}
+use Rattle.log_format.specs.declared.record.Kind.TheVariants.{Read, Write, Region}
 use Rattle.race_model.specs.Trace.{Trace, Node, logs_of, record_at}
+use Rattle.race_model.specs.Listing.{lane_of}
+use Rattle.race_model.specs.ForkJoin.{IsForkJoin, IsTask}
 use Rattle.race_model.specs.Race.{IsRacePair, held_at}
 use Rattle.counted_order.specs.Parting.{PartInLanes}
 use Rattle.writer_laws.specs.Cases.{
@@ -21,16 +23,14 @@ use Rattle.writer_laws.specs.Cases.{
   team_inside,
   cut_inside,
   no_barrier,
+  span_changed,
   first_half,
   second_half,
 }
 use Rattle.writer_laws.specs.Guards.{guarded}
 use Rattle.writer_laws.proofs.Alike.{alike_logs}
-use Rattle.writer_laws.proofs.Computed.{part_at_once, pair_of, loses}
+use Rattle.writer_laws.proofs.Computed.{no_mutex, part_at_once, pair_of, loses}
 use Rattle.writer_laws.proofs.Deciding.{is_fork_join, lacks_pair, passed}
-
-no_mutex : {P : Type 0} (m : ℕ) → Contains [] m → P
-no_mutex m (k, within, same) = absurd (omega arith)
 
 abbrev node : List Step → ℕ → Node
 node path index = record { path = path; index = index }
@@ -66,3 +66,10 @@ within_split = (
   lacks_pair first_half (5, 7) refl refl,
   lacks_pair second_half (5, 7) refl refl,
 )
+
+pub span_matters : IsForkJoin (logs_of span_changed) → ⊥
+span_matters tree = none (tree.ends.lanes (node [] 0) 0 1 (lane_of [] 0 0 1)
+    (record { event = record { kind = Region; size = 0; site = 0; line = 1; addr = 0; value = 1 }; found = refl; region = refl; spans = refl; in_span = omega arith; child = refl }))
+  where
+    none : IsTask (logs_of span_changed) (lane_of [] 0 0 1) → ⊥
+    none task = omega arith

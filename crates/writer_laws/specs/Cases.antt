@@ -152,6 +152,14 @@ first_half = two_lanes (access Write 5 100 0 ∷ mark End ∷ []) (mark End ∷ 
 abbrev pub second_half : Trace
 second_half = two_lanes (mark End ∷ []) (access Read 7 100 0 ∷ mark End ∷ [])
 
+-- a Region with another span than its lanes
+abbrev pub span_changed : Trace
+span_changed =
+    record { path = []; records = record { kind = Region; size = 0; site = 0; line = 1; addr = 0; value = 1 } ∷ mark End ∷ [] }
+    ∷ record { path = lane 0 0; records = mark End ∷ [] }
+    ∷ record { path = lane 0 1; records = mark End ∷ [] }
+    ∷ []
+
 -- A run to which all laws apply: the root has accesses; lane 0 holds a mutex over a fork and a barrier, and writes the same bytes twice; it
 -- forks a team before the barrier and one after it.
 abbrev pub nested : List Record → List Record → List Record → Trace

@@ -14,6 +14,7 @@ ghost use Rattle.writer_laws.specs.Cases.{
   team_inside,
   cut_inside,
   no_barrier,
+  span_changed,
   first_half,
   second_half,
   lane,
@@ -57,11 +58,12 @@ pub fn premises_of_dropping_are_needed()
 {}
 
 /// What goes wrong with the other laws: a lock that is moved before an access hides a race; a region that is cut where a mutex is held has
-/// a race that the run hasn't; one that is cut at a barrier of a team inside, which not all its lanes meet, loses one; and so do two folders, each
-/// of which has the logs of some lanes of a region.
+/// a race that the run hasn't; one that is cut at a barrier of a team inside, which not all its lanes meet, loses one; so do two folders, each
+/// of which has the logs of some lanes of a region; and with another span a Region's lanes aren't there.
 pub fn other_premises_are_needed()
     ensures lock_moved { DifferInLocksAlone (logs_of unlocked_access) (logs_of locked_access) × LosesPair (logs_of unlocked_access) (logs_of locked_access) }
     ensures cut_where_held { LosesPair (logs_of cut_where_held) (logs_of held_over_barrier) }
     ensures cut_inside { LosesPair (logs_of team_inside) (logs_of cut_inside) }
     ensures split_within { (pair : ℕ × ℕ) × IsRacePair (logs_of no_barrier) pair × (IsRacePair (logs_of first_half) pair → ⊥) × (IsRacePair (logs_of second_half) pair → ⊥) }
+    ensures span_changed { IsForkJoin (logs_of span_changed) → ⊥ }
 {}
