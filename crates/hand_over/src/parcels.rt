@@ -25,7 +25,7 @@ const SENT: u64 = 1;
 const CLOSED: u64 = 2;
 
 /// How often a thread that waits lets others run before it sleeps.
-const YIELDS: u32 = 100;
+const YIELDS: u32 = 4;
 
 /// Lanes on which parcels go and come back.
 #[derive(Drop)]

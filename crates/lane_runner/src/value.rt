@@ -98,8 +98,9 @@ fn compound<L: Log, R: Threads + Wait + Copy + Send + 'static>(
     }
 }
 
-/// The value of an expression. Its reads are recorded.
+/// The value of an expression. Its reads are recorded. It is inlined, so that the value of a leaf doesn't go through memory.
 #[cycle(valuing)]
+#[inline(always)]
 pub fn value<L: Log, R: Threads + Wait + Copy + Send + 'static>(
     rt: &R,
     alloc: Global,
