@@ -1,5 +1,5 @@
 //! The logs of a team's lanes, opened.
-ghost use Rattle.std.specs.Prelude.{◌≡◌, ◌<◌, ◌≤◌, ℕ, [], true, false, length, map, is_some, IfSome, None, Some, Ok, slice_index_or};
+ghost use Rattle.std.specs.Prelude.{◌≡◌, ◌<◌, ◌≤◌, ℕ, [], true, false, length, map, is_some, IfSome, IfOk, None, Some, Ok, slice_index_or};
 ghost use Rattle.sw_base.specs.Environment.{WhereTold, empty_text};
 ghost use Rattle.event_buffer.specs.Buffered.{Buffered};
 ghost use Rattle.race_model.specs.Listing.{lane_of};
@@ -17,6 +17,7 @@ use crate::ground::Ground;
 use event_buffer::Buffer;
 use lane_runner::{Lane, Locals, Track};
 use shared_words::{ChunkHand, Chunks, Hand};
+use std::alloc::AllocError;
 use std::alloc::Global;
 use std::sync::Wait;
 use std::thread::Threads;
@@ -55,6 +56,18 @@ fn torn<L: Log>(alloc: Global, path: Path, log: L, draws: ChunkHand, trouble: Tr
     }
 }
 
+// For how many locals a lane's copy has room, at least. Shorter ones lie side by side, and lanes that write to one cache line wait for each other.
+const ROOM: usize = 16;
+
+// A lane's copy of the locals.
+fn copied(alloc: Global, slots: &[i64]) -> Result<Vec<i64>, AllocError>
+    ensures { IfOk result (λ copy. copy.items ≡ slots.now) }
+{
+    let mut copy = Vec::with_capacity(alloc, slots.len().max(ROOM))?;
+    copy.extend_from_slice(slots)?;
+    Ok(copy)
+}
+
 // Opens the log of a lane with these locals.
 pub(crate) fn open_lane<R: Threads, L: Log>(
     rt: &R,
@@ -72,7 +85,7 @@ pub(crate) fn open_lane<R: Threads, L: Log>(
     requires no_faults { L.faults log ≡ 0 }
     ensures opens { OpensAs (record { dir = L.dir log; size = size; tells = is_some (L.text log) }) path locals.now.slots.items draws result }
 {
-    let Ok(slots) = locals.slots.clone() else {
+    let Ok(slots) = copied(alloc, &locals.slots) else {
         return Err(torn(alloc, path, log, draws, Trouble::Memory));
     };
     match Buffer::start(rt, alloc, log, size) {

@@ -1,5 +1,4 @@
 use Rattle.std.proofs.Common.{refl, ◌∙◌}
-use Rattle.std.specs.List.{each_same}
 use Rattle.sw_base.specs.declared.trouble.Trouble.TheVariants.{Memory}
 use Rattle.log_format.specs.declared.format.TheConstants.{FORMAT}
 use Rattle.log_format.specs.Format.{log_header}
@@ -17,7 +16,7 @@ pub returns-in-Ok-start : goal.returns-in-Ok-start
 returns-in-Ok-start g c = record {
   opens =
       lane_begins _ c.args.path c.args.locals.now.slots.items c.in-Ok.slots.items c.args.draws c.blank.result (g.L.Log.dir c.args.log) (g.L.Log.path c.args.log) (g.L.Log.text c.args.log) c.in-Ok-start.buffer.faults c.args.size c.in-Ok-start.buffer c.new-track.result
-      c.new.result c.new.ensures c.new-track.ensures c.in-Ok-start.ensures.started (each_same c.args.locals.now.slots.items c.in-Ok.slots.items c.in-Ok.ensures.cases.0) c.requires.path refl c.in-Ok-start.ensures.records;
+      c.new.result c.new.ensures c.new-track.ensures c.in-Ok-start.ensures.started c.in-Ok.ensures c.requires.path refl c.in-Ok-start.ensures.records;
 }
 
 pub returns-in-Err : goal.returns-in-Err
