@@ -3,6 +3,7 @@ use Rattle.std.proofs.Common.{◌≡◌, refl, ap, sym, ◌∙◌, subst, ℕ, �
 use Rattle.std.specs.Prelude.{OnOk, All}
 use denote.Ref.{Bor, MutBor}
 use Rattle.std.specs.Global.{Vec}
+use Rattle.sw_base.specs.declared.environment.Log.{Ghosts}
 use Rattle.sw_base.specs.declared.path.Step.{Step}
 use Rattle.log_format.specs.declared.record.Kind.TheVariants as kind
 use Rattle.sw_base.specs.declared.closed_log.ClosedLog.{ClosedLog}
@@ -16,7 +17,6 @@ use Rattle.shared_words.specs.declared.view.View.{View}
 use Rattle.shared_words.specs.Handles.{HandValue}
 use Rattle.task_place.specs.declared.locals.Locals.{Locals}
 use Rattle.lane_runner.specs.declared.stop.Halt.{Halt}
-use Rattle.lane_runner.specs.Children.{LogView}
 use Rattle.lane_runner.specs.Forking.{Answer, IsReady}
 use Rattle.lane_runner.specs.Going.{Progress, CanGo, GoesPast, IsSameLog, TakesOrHalts, site}
 use Rattle.lane_runner.specs.Handed.{MaybeStop}
@@ -84,5 +84,5 @@ puts_end line old inside new same after r is takes log =
 -- what is asked for the regions of a phase, told of the same log
 pub forks_same : {T : Type 0} (w : WorldValue) (accepts : MutBor (HandValue View) → Bor Locals → ℕ → Vec T → Bor Team → MutBor (Vec (ClosedLog T)) → Type 0)
     (gives : MutBor (HandValue View) → Bor Locals → ℕ → Vec T → Bor Team → MutBor (Vec (ClosedLog T)) → Answer → MutBor (HandValue View) → MutBor (Vec (ClosedLog T)) → Type 0)
-    (seen : LogView T) (b b' : Buffered) (items : List Item) → b' ≡ b → All (EachTeamIn (MayFork w accepts gives seen b)) items → All (EachTeamIn (MayFork w accepts gives seen b')) items
+    (seen : Ghosts T) (b b' : Buffered) (items : List Item) → b' ≡ b → All (EachTeamIn (MayFork w accepts gives seen b)) items → All (EachTeamIn (MayFork w accepts gives seen b')) items
 forks_same w accepts gives seen b b' items same all = subst (λ (x : Buffered). All (EachTeamIn (MayFork w accepts gives seen x)) items) (sym same) all

@@ -5,10 +5,11 @@ use Rattle.std.specs.Option.{option_map}
 use Rattle.std.proofs.lemmas.Bool.{cases_lt}
 use Rattle.std.proofs.lemmas.List.{get_or_push, get_or_append_left}
 use Rattle.std.proofs.lemmas.Option.{same_Some}
+use Rattle.sw_base.specs.declared.environment.Log.{Ghosts}
 use Rattle.sw_base.specs.declared.path.Step.{Step}
 use Rattle.sw_base.specs.Environment.{Text, WhereTold, empty_text}
 use Rattle.event_buffer.specs.Buffered.{Buffered}
-use Rattle.lane_runner.specs.Children.{LogView, IsNewLog, EachIsNew, AreNewLogs}
+use Rattle.lane_runner.specs.Children.{IsNewLog, EachIsNew, AreNewLogs}
 use Rattle.lane_runner.specs.Going.{IsSameLog}
 
 length_one : {T : Type 0} (ys : List T) (y : T) → length (ys ++ y ∷ []) ≡ suc (length ys)
@@ -26,7 +27,7 @@ module _ {T : Type 0} (P : ℕ → T → Type 0) (xs : List T) (x : T) where
         let is : length xs ≡ k = omega (arith, less, past, length_one xs x) in
         subst (P k) (sym (get_or_push xs x d k is)) (subst (λ (i : ℕ). P i x) is one)
 
-module _ {T : Type 0} (seen : LogView T) (old mid : Buffered) (number span lane : ℕ) (log : T) where
+module _ {T : Type 0} (seen : Ghosts T) (old mid : Buffered) (number span lane : ℕ) (log : T) where
   empty_is : (told : Option Text) (text : Option Text) → text ≡ option_map (λ _. empty_text) told → (is_some text ≡ is_some told) × WhereTold text (λ t. t ≡ empty_text)
   empty_is None text is = (ap is_some is, λ t some. absurd (none_is (sym is ∙ some))) where
     none_is : {t : Text} → None ≡ Some t → ⊥
@@ -43,14 +44,14 @@ module _ {T : Type 0} (seen : LogView T) (old mid : Buffered) (number span lane 
     no_faults = none;
   }
 
-pub new_logs_more : {T : Type 0} (seen : LogView T) (task : Buffered) (number span : ℕ) (logs : List T) (log : T) (lane : ℕ) (all : List T) → EachIsNew seen task number span logs → length logs ≡ lane → IsNewLog seen task number span lane log
+pub new_logs_more : {T : Type 0} (seen : Ghosts T) (task : Buffered) (number span : ℕ) (logs : List T) (log : T) (lane : ℕ) (all : List T) → EachIsNew seen task number span logs → length logs ≡ lane → IsNewLog seen task number span lane log
     → all ≡ logs ++ log ∷ [] → EachIsNew seen task number span all
 new_logs_more {T} seen task number span logs log lane all each count one is =
     subst (λ (xs : List T). EachIsNew seen task number span xs) (sym is)
     (each_more (λ k x. IsNewLog seen task number span k x) logs log each (subst (λ (k : ℕ). IsNewLog seen task number span k log) (sym count) one))
 
 -- logs that are new for a task are so when its log has taken more
-pub new_logs_later : {T : Type 0} (seen : LogView T) (old mid : Buffered) (number span : ℕ) (logs : List T) → IsSameLog old mid → AreNewLogs seen mid number span logs → AreNewLogs seen old number span logs
+pub new_logs_later : {T : Type 0} (seen : Ghosts T) (old mid : Buffered) (number span : ℕ) (logs : List T) → IsSameLog old mid → AreNewLogs seen mid number span logs → AreNewLogs seen old number span logs
 new_logs_later seen old mid number span logs same new = record {
   count = new.count;
   each = λ k d less.

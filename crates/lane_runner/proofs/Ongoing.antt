@@ -3,6 +3,7 @@ use Rattle.std.proofs.Common.{◌≡◌, ap, sym, subst, ℕ, List, ℤ}
 use Rattle.std.specs.Prelude.{Some, slice_get}
 use denote.Ref.{Bor, MutBor}
 use Rattle.std.specs.Global.{Vec}
+use Rattle.sw_base.specs.declared.environment.Log.{Ghosts}
 use Rattle.sw_base.specs.declared.closed_log.ClosedLog.{ClosedLog}
 use Rattle.kernel_syntax.specs.declared.syntax.Stmt.{Stmt}
 use Rattle.kernel_syntax.specs.declared.syntax.Team.{Team}
@@ -15,7 +16,6 @@ use Rattle.shared_words.specs.declared.view.View.{View}
 use Rattle.shared_words.specs.Handles.{HandValue}
 use Rattle.task_place.specs.declared.locals.Locals.{Locals}
 use Rattle.lane_runner.specs.Alone.{IsAlone}
-use Rattle.lane_runner.specs.Children.{LogView}
 use Rattle.lane_runner.specs.Executing.{MayExecute}
 use Rattle.lane_runner.specs.Forking.{Answer}
 use Rattle.lane_runner.specs.Going.{IsSameLog, Made, Progress}
@@ -27,7 +27,7 @@ use Rattle.lane_runner.proofs.Values.{can_follow}
 
 module _ {T : Type 0} {w : WorldValue} {accepts : MutBor (HandValue View) → Bor Locals → ℕ → Vec T → Bor Team → MutBor (Vec (ClosedLog T)) → Type 0}
     {gives : MutBor (HandValue View) → Bor Locals → ℕ → Vec T → Bor Team → MutBor (Vec (ClosedLog T)) → Answer → MutBor (HandValue View) → MutBor (Vec (ClosedLog T)) → Type 0}
-    {seen : LogView T} where
+    {seen : Ghosts T} where
   pub executes_as : {p : Progress} {code code' : Code} → code ≡ code' → MayExecute w accepts gives seen p code → MayExecute w accepts gives seen p code'
   executes_as {p} is may = subst (MayExecute w accepts gives seen p) is may
 

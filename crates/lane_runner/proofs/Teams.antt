@@ -3,6 +3,7 @@ use Rattle.std.proofs.Common.{◌≡◌, sym, subst, ℕ, ◌<◌, List, [], ◌
 use Rattle.std.specs.Prelude.{All, length}
 use denote.Ref.{Bor, MutBor}
 use Rattle.std.specs.Global.{Vec}
+use Rattle.sw_base.specs.declared.environment.Log.{Ghosts}
 use Rattle.sw_base.specs.declared.path.Step.{Step}
 use Rattle.sw_base.specs.declared.closed_log.ClosedLog.{ClosedLog}
 use Rattle.event_buffer.specs.Buffered.{Buffered}
@@ -14,7 +15,6 @@ use Rattle.kernel_model.specs.declared.phase.Item.TheVariants as item
 use Rattle.shared_words.specs.declared.view.View.{View}
 use Rattle.shared_words.specs.Handles.{HandValue}
 use Rattle.task_place.specs.declared.locals.Locals.{Locals}
-use Rattle.lane_runner.specs.Children.{LogView}
 use Rattle.lane_runner.specs.Forking.{Answer, EndsAs, stop_in, RunsTeam}
 use Rattle.lane_runner.specs.Handed.{HandsOn, LogPlace, entries_of, place_of}
 use Rattle.lane_runner.specs.Going.{IsSameLog}
@@ -37,7 +37,7 @@ teams_all P Q each (Critical mutex line end body rest) all = (teams_all P Q each
 
 module _ {T : Type 0} (w : WorldValue) (accepts : MutBor (HandValue View) → Bor Locals → ℕ → Vec T → Bor Team → MutBor (Vec (ClosedLog T)) → Type 0)
     (gives : MutBor (HandValue View) → Bor Locals → ℕ → Vec T → Bor Team → MutBor (Vec (ClosedLog T)) → Answer → MutBor (HandValue View) → MutBor (Vec (ClosedLog T)) → Type 0)
-    (seen : LogView T) (old : Buffered) where
+    (seen : Ghosts T) (old : Buffered) where
   pub teams_of : {code code' : Code} → code ≡ code' → EachTeam (MayFork w accepts gives seen old) code → EachTeam (MayFork w accepts gives seen old) code'
   teams_of is all = subst (EachTeam (MayFork w accepts gives seen old)) is all
 

@@ -1,5 +1,6 @@
 -- Regions that a lane forks: what it asks of who runs them, and what that gives.
 use Rattle.std.specs.Prelude.{◌≡◌, ℕ, ◌+◌, ◌<◌, List, [], ◌∷◌, ◌++◌, ℤ, Some, None, Result, Ok, Err}
+use Rattle.sw_base.specs.declared.environment.Log.{Ghosts}
 use Rattle.sw_base.specs.declared.closed_log.ClosedLog.{ClosedLog}
 use Rattle.sw_base.specs.declared.path.Step.{Step}
 use denote.Ref.{Bor, MutBor}
@@ -20,7 +21,7 @@ use Rattle.execution_model.specs.Execution.{DrewSome}
 use Rattle.execution_model.specs.Runs.{RunsTask, lane_begin, region_logs}
 use Rattle.task_place.specs.declared.locals.Locals.{Locals}
 use Rattle.lane_runner.specs.declared.stop.Stop.{Stop}
-use Rattle.lane_runner.specs.Children.{LogView, AreNewLogs}
+use Rattle.lane_runner.specs.Children.{AreNewLogs}
 use Rattle.lane_runner.specs.Handed.{Entry, HandsOn, MaybeStop, entries_of, place_of}
 use Rattle.lane_runner.specs.Stopping.{StopsRegion}
 use Rattle.execution_model.specs.Elements.{element_word, layout_of}
@@ -67,7 +68,7 @@ pub record IsReady (hand : HandValue View) (words : WordsValue) : Type 0 where
 -- the locals given.
 pub record RunsTeam {T : Type 0} (w : WorldValue) (accepts : MutBor (HandValue View) → Bor Locals → ℕ → Vec T → Bor Team → MutBor (Vec (ClosedLog T)) → Type 0)
     (gives : MutBor (HandValue View) → Bor Locals → ℕ → Vec T → Bor Team → MutBor (Vec (ClosedLog T)) → Answer → MutBor (HandValue View) → MutBor (Vec (ClosedLog T)) → Type 0)
-    (seen : LogView T) (task : Buffered) (team : TeamTree) : Type 0 where
+    (seen : Ghosts T) (task : Buffered) (team : TeamTree) : Type 0 where
   pub accepted : (hand : MutBor (HandValue View)) (locals : Bor Locals) (number : ℕ) (logs : Vec T) (given : Bor Team) (done : MutBor (Vec (ClosedLog T))) → team_of given.now ≡ team
       → IsReady hand.now w.words → AreNewLogs seen task number team.span logs.items → accepts hand locals number logs given done
   pub ran : (hand after : MutBor (HandValue View)) (locals : Bor Locals) (number : ℕ) (logs : Vec T) (given : Bor Team) (done now_done : MutBor (Vec (ClosedLog T))) (r : Answer) → team_of given.now ≡ team

@@ -2,6 +2,7 @@
 -- tasks below it.
 use Rattle.std.specs.Prelude.{◌≡◌, ◌⊎◌, ℕ, suc, ◌+◌, ◌<◌, ◌≤◌, Bool, List, [], ◌∷◌, ◌++◌, length, map, All, Contains, Option, Some, None, is_some}
 use Rattle.std.specs.List.{flat_map}
+use Rattle.sw_base.specs.declared.environment.Log.{Ghosts}
 use Rattle.sw_base.specs.declared.closed_log.ClosedLog.{ClosedLog}
 use Rattle.sw_base.specs.declared.path.Step.{Step}
 use Rattle.sw_base.specs.declared.trouble.Trouble.TheVariants.{Failed, Memory}
@@ -18,7 +19,6 @@ use Rattle.event_buffer.specs.Buffered.{Buffered}
 use Rattle.event_buffer.specs.Logged.{HasAll, KeepsPrefix}
 use Rattle.lane_runner.specs.declared.stop.Stop.{Stop}
 use Rattle.lane_runner.specs.declared.stop.Stop.TheVariants.{Trouble, Tasks}
-use Rattle.lane_runner.specs.Children.{LogView}
 
 -- a log that is handed on: the path of its task, what is seen of it, and how many records the task put
 pub record Entry : Type 0 where
@@ -29,7 +29,7 @@ pub record Entry : Type 0 where
   pub faults : ℕ
   pub count : ℕ
 
-module _ {T : Type 0} (seen : LogView T) where
+module _ {T : Type 0} (seen : Ghosts T) where
   abbrev pub entry_of : ClosedLog T → Entry
   entry_of closed = record {
     task = closed.path;

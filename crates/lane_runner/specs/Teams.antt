@@ -2,6 +2,7 @@
 use Rattle.std.specs.Prelude.{ℕ, ◌<◌, length}
 use denote.Ref.{Bor, MutBor}
 use Rattle.std.specs.Global.{Vec}
+use Rattle.sw_base.specs.declared.environment.Log.{Ghosts}
 use Rattle.sw_base.specs.declared.closed_log.ClosedLog.{ClosedLog}
 use Rattle.event_buffer.specs.Buffered.{Buffered}
 use Rattle.kernel_syntax.specs.declared.syntax.Team.{Team}
@@ -12,7 +13,6 @@ use Rattle.kernel_model.specs.declared.phase.Item.TheVariants as item
 use Rattle.shared_words.specs.declared.view.View.{View}
 use Rattle.shared_words.specs.Handles.{HandValue}
 use Rattle.task_place.specs.declared.locals.Locals.{Locals}
-use Rattle.lane_runner.specs.Children.{LogView}
 use Rattle.lane_runner.specs.Forking.{Answer, RunsTeam}
 use Rattle.lane_runner.specs.World.{WorldValue}
 
@@ -37,6 +37,6 @@ EachTeamIn P _ = Unit {0}
 -- a task with this log may fork a region of this team: it isn't too deep for one, and the function that is called runs it
 pub record MayFork {T : Type 0} (w : WorldValue) (accepts : MutBor (HandValue View) → Bor Locals → ℕ → Vec T → Bor Team → MutBor (Vec (ClosedLog T)) → Type 0)
     (gives : MutBor (HandValue View) → Bor Locals → ℕ → Vec T → Bor Team → MutBor (Vec (ClosedLog T)) → Answer → MutBor (HandValue View) → MutBor (Vec (ClosedLog T)) → Type 0)
-    (seen : LogView T) (task : Buffered) (team : TeamTree) : Type 0 where
+    (seen : Ghosts T) (task : Buffered) (team : TeamTree) : Type 0 where
   pub path : length task.path < 4
   pub runs : RunsTeam w accepts gives seen task team

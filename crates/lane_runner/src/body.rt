@@ -52,7 +52,7 @@ impl<L: Log> Frame<L> {
             &mut Vec<ClosedLog<L>>,
         ) -> Result<(), (Path, Stop)>,
     >(&mut self, body: &Body, rt: &R, alloc: Global, world: &World, region: &F) -> Result<(), Halt>
-        requires executes { MayExecute world.now (F.pre region.now) (F.post region.now) (record { dir = L.dir; path = L.path; text = L.text; faults = L.faults }) self.old.track (code_of body.now.stmts.items) }
+        requires executes { MayExecute world.now (F.pre region.now) (F.post region.now) L.Log self.old.track (code_of body.now.stmts.items) }
         ensures goes { Goes world.now (run (site world.now) (code_of body.now.stmts.items)) self.old.locals.slots.items self.new.locals.slots.items self.old.track self.new.track result }
         ensures log { IsSameLog self.old.track.buffer self.new.track.buffer }
         ensures loops { self.new.track.tally.next_loop ≡ self.old.track.tally.next_loop }
@@ -87,7 +87,7 @@ impl<L: Log> Frame<L> {
         first: u64,
         count: u64,
     ) -> Result<(), Halt>
-        requires executes { MayExecute world.now (F.pre region.now) (F.post region.now) (record { dir = L.dir; path = L.path; text = L.text; faults = L.faults }) self.old.track (code_of body.now.stmts.items) }
+        requires executes { MayExecute world.now (F.pre region.now) (F.post region.now) L.Log self.old.track (code_of body.now.stmts.items) }
         requires top { (from +ℤ pos (first + count)) ≤ℤ pos (2 ^ 63 - 1) }
         ensures goes { Goes world.now (turns count first (turn_from (site world.now) (code_of body.now.stmts.items) slot from)) self.old.locals.slots.items self.new.locals.slots.items self.old.track self.new.track result }
         ensures log { IsSameLog self.old.track.buffer self.new.track.buffer }
@@ -123,7 +123,7 @@ impl<L: Log> Frame<L> {
         line: u32,
         end: u32,
     ) -> Result<(), Halt>
-        requires executes { MayExecute world.now (F.pre region.now) (F.post region.now) (record { dir = L.dir; path = L.path; text = L.text; faults = L.faults }) self.old.track (tree.Critical mutex line end (code_of body.now.stmts.items) Done) }
+        requires executes { MayExecute world.now (F.pre region.now) (F.post region.now) L.Log self.old.track (tree.Critical mutex line end (code_of body.now.stmts.items) Done) }
         ensures goes { Goes world.now (run (site world.now) (tree.Critical mutex line end (code_of body.now.stmts.items) Done)) self.old.locals.slots.items self.new.locals.slots.items self.old.track self.new.track result }
         ensures log { IsSameLog self.old.track.buffer self.new.track.buffer }
         ensures loops { self.new.track.tally.next_loop ≡ self.old.track.tally.next_loop }
@@ -153,7 +153,7 @@ impl<L: Log> Frame<L> {
             &mut Vec<ClosedLog<L>>,
         ) -> Result<(), (Path, Stop)>,
     >(&mut self, stmt: &Stmt, rt: &R, alloc: Global, world: &World, region: &F) -> Result<(), Halt>
-        requires executes { MayExecute world.now (F.pre region.now) (F.post region.now) (record { dir = L.dir; path = L.path; text = L.text; faults = L.faults }) self.old.track (stmt_code stmt.now Done) }
+        requires executes { MayExecute world.now (F.pre region.now) (F.post region.now) L.Log self.old.track (stmt_code stmt.now Done) }
         ensures goes { Goes world.now (run (site world.now) (stmt_code stmt.now Done)) self.old.locals.slots.items self.new.locals.slots.items self.old.track self.new.track result }
         ensures log { IsSameLog self.old.track.buffer self.new.track.buffer }
         ensures loops { self.new.track.tally.next_loop ≡ self.old.track.tally.next_loop }

@@ -20,7 +20,7 @@ pub(crate) fn children<L: Log, R: Wait>(
 ) -> Result<Vec<L>, Trouble>
     requires path { length buffer.old.path < 4 }
     requires unrefused { buffer.old.refused ≡ None }
-    ensures logs { IfOk result (λ logs. AreNewLogs (record { dir = L.dir; path = L.path; text = L.text; faults = L.faults }) buffer.old number span logs.items) }
+    ensures logs { IfOk result (λ logs. AreNewLogs L.Log buffer.old number span logs.items) }
     ensures still { IsStill buffer.old buffer.new }
     ensures waiting { buffer.new.waiting ≡ buffer.old.waiting }
     ensures unrefused { OnOk result (buffer.new.refused ≡ None) }

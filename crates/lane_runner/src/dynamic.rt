@@ -45,7 +45,7 @@ impl<L: Log> Frame<L> {
         chunk: u64,
         line: u32,
     ) -> Result<bool, Halt>
-        requires executes { MayExecute world.now (F.pre region.now) (F.post region.now) (record { dir = L.dir; path = L.path; text = L.text; faults = L.faults }) self.old.track (code_of body.now.stmts.items) }
+        requires executes { MayExecute world.now (F.pre region.now) (F.post region.now) L.Log self.old.track (code_of body.now.stmts.items) }
         requires some { 0 < chunk }
         requires top { (from +ℤ pos total) ≤ℤ pos (2 ^ 63 - 1) }
         requires counter { HasCounters 1 self.old.track.tally.next_loop world.now.chunks }
@@ -100,7 +100,7 @@ impl<L: Log> Frame<L> {
         chunk: u64,
         line: u32,
     ) -> Result<(), Halt>
-        requires executes { MayExecute world.now (F.pre region.now) (F.post region.now) (record { dir = L.dir; path = L.path; text = L.text; faults = L.faults }) self.old.track (code_of body.now.stmts.items) }
+        requires executes { MayExecute world.now (F.pre region.now) (F.post region.now) L.Log self.old.track (code_of body.now.stmts.items) }
         requires some { 0 < chunk }
         requires top { (from +ℤ pos total) ≤ℤ pos (2 ^ 63 - 1) }
         requires counter { HasCounters 1 self.old.track.tally.next_loop world.now.chunks }

@@ -165,7 +165,7 @@ impl<L: Log> Lane<L> {
         requires can { CanGoOn world.now phase.now self.old }
         requires phase { IsPhase world.now.words.locks phase.now }
         requires number { world.now.chunks.loops < 4294967296 }
-        requires runs { All (EachTeamIn (MayFork world.now (F.pre region.now) (F.post region.now) (record { dir = L.dir; path = L.path; text = L.text; faults = L.faults }) self.old.buffer)) phase.now }
+        requires runs { All (EachTeamIn (MayFork world.now (F.pre region.now) (F.post region.now) L.Log self.old.buffer)) phase.now }
         ensures executed { Executed world.now phase.now self.old self.new }
         ensures tells { result ≡ answer_noted self.new.stopped }
     {

@@ -45,7 +45,7 @@ impl<L: Log> Frame<L> {
         requires phase { IsPhase world.now.words.locks phase.now }
         requires counters { self.old.track.tally.next_loop + drawn_count (map part_of phase.now) ≤ world.now.chunks.loops }
         requires number { world.now.chunks.loops < 4294967296 }
-        requires runs { All (EachTeamIn (MayFork world.now (F.pre region.now) (F.post region.now) (record { dir = L.dir; path = L.path; text = L.text; faults = L.faults }) self.old.track.buffer)) phase.now }
+        requires runs { All (EachTeamIn (MayFork world.now (F.pre region.now) (F.post region.now) L.Log self.old.track.buffer)) phase.now }
         ensures goes { GoesPast (bar_count (map part_of phase.now)) world.now (run_parts (site world.now) (map part_of phase.now)) self.old.locals.slots.items self.new.locals.slots.items self.old.track self.new.track result }
         ensures log { IsSameLog self.old.track.buffer self.new.track.buffer }
         ensures loops { IfOk result (λ _. self.new.track.tally.next_loop ≡ self.old.track.tally.next_loop + drawn_count (map part_of phase.now)) }

@@ -51,7 +51,7 @@ impl<L: Log> Frame<L> {
         total: u64,
         chunk: u32,
     ) -> Result<(), Halt>
-        requires executes { MayExecute world.now (F.pre region.now) (F.post region.now) (record { dir = L.dir; path = L.path; text = L.text; faults = L.faults }) self.old.track (code_of body.now.stmts.items) }
+        requires executes { MayExecute world.now (F.pre region.now) (F.post region.now) L.Log self.old.track (code_of body.now.stmts.items) }
         requires some { 0 < chunk }
         requires top { (from +ℤ pos total) ≤ℤ pos (2 ^ 63 - 1) }
         ensures goes { Goes world.now (each (static_iterations chunk total world.now.lane world.now.span) (turn_from (site world.now) (code_of body.now.stmts.items) slot from)) self.old.locals.slots.items self.new.locals.slots.items self.old.track self.new.track result }
@@ -93,7 +93,7 @@ impl<L: Log> Frame<L> {
         schedule: Schedule,
         line: u32,
     ) -> Result<(), Halt>
-        requires executes { MayExecute world.now (F.pre region.now) (F.post region.now) (record { dir = L.dir; path = L.path; text = L.text; faults = L.faults }) self.old.track (code_of body.now.stmts.items) }
+        requires executes { MayExecute world.now (F.pre region.now) (F.post region.now) L.Log self.old.track (code_of body.now.stmts.items) }
         requires chunk { IsBoundedSchedule schedule }
         requires counters { HasCounters (counters_of schedule) self.old.track.tally.next_loop world.now.chunks }
         requires line { 1 ≤ line }
@@ -153,7 +153,7 @@ impl<L: Log> Frame<L> {
         requires can { CanGo world.now self.old.track }
         requires bounded { IsBoundedCode (tree.For slot (term_of from.now) (term_of to.now) schedule true line end (code_of body.now.stmts.items) Done) }
         requires alone { IsAlone world.now.words.locks self.old.track.hand.view.held (code_of body.now.stmts.items) }
-        requires runs { EachTeam (MayFork world.now (F.pre region.now) (F.post region.now) (record { dir = L.dir; path = L.path; text = L.text; faults = L.faults }) self.old.track.buffer) (code_of body.now.stmts.items) }
+        requires runs { EachTeam (MayFork world.now (F.pre region.now) (F.post region.now) L.Log self.old.track.buffer) (code_of body.now.stmts.items) }
         requires counters { HasCounters (counters_of schedule) self.old.track.tally.next_loop world.now.chunks }
         ensures goes { Goes world.now (run (site world.now) (tree.For slot (term_of from.now) (term_of to.now) schedule true line end (code_of body.now.stmts.items) Done)) self.old.locals.slots.items self.new.locals.slots.items self.old.track self.new.track result }
         ensures log { IsSameLog self.old.track.buffer self.new.track.buffer }

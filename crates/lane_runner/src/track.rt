@@ -59,7 +59,7 @@ impl<L: Log> Model for Track<L> {
       hand = t.hand;
       buffer = t.buffer;
       tally = record { draws = t.draws; next_loop = t.next_loop; forked = t.forked };
-      done = entries_of (record { dir = L.dir; path = L.path; text = L.text; faults = L.faults }) t.done.items;
+      done = entries_of L.Log t.done.items;
     } };
 }
 
@@ -154,7 +154,7 @@ impl<L: Log> Track<L> {
         ensures hand { result.0 ≡ self.hand }
         ensures buffer { result.1 ≡ self.buffer }
         ensures draws { result.2 ≡ self.tally.draws }
-        ensures done { entries_of (record { dir = L.dir; path = L.path; text = L.text; faults = L.faults }) result.3.items ≡ self.done }
+        ensures done { entries_of L.Log result.3.items ≡ self.done }
     {
         (self.hand, self.buffer, self.draws, self.done)
     }
@@ -354,7 +354,7 @@ impl<L: Log> Track<L> {
         requires puts { CanPut self.old }
         requires path { length self.old.buffer.path < 4 }
         ensures takes { TakesOrHalts (event kind.Region line 0 span) self.old.hand.view self.old self.new result }
-        ensures logs { IfOk result (λ logs. AreNewLogs (record { dir = L.dir; path = L.path; text = L.text; faults = L.faults }) self.old.buffer self.old.tally.forked span logs.items) }
+        ensures logs { IfOk result (λ logs. AreNewLogs L.Log self.old.buffer self.old.tally.forked span logs.items) }
         ensures log { IsSameLog self.old.buffer self.new.buffer }
         ensures tally { self.new.tally ≡ self.old.tally }
     {
@@ -393,7 +393,7 @@ impl<L: Log> Track<L> {
         requires free { self.old.hand.view.held ≡ [] }
         requires line { 1 ≤ team.now.line }
         requires path { length self.old.buffer.path < 4 }
-        requires runs { RunsTeam world.now (F.pre region.now) (F.post region.now) (record { dir = L.dir; path = L.path; text = L.text; faults = L.faults }) self.old.buffer (team_of team.now) }
+        requires runs { RunsTeam world.now (F.pre region.now) (F.post region.now) L.Log self.old.buffer (team_of team.now) }
         ensures goes { Goes world.now (run (site world.now) (tree.Parallel team.now.span team.now.line team.now.end (code_of team.now.body.stmts.items) tree.Done)) locals.now.slots.items locals.now.slots.items self.old self.new result }
         ensures log { IsSameLog self.old.buffer self.new.buffer }
         ensures loops { self.new.tally.next_loop ≡ self.old.tally.next_loop }

@@ -10,9 +10,9 @@ loop-lane-preserved g c =
     let still = c.loop-lane.invariant.still in
     record {
       each =
-          new_logs_more (record { dir = g.L.Log.dir; path = g.L.Log.path; text = g.L.Log.text; faults = g.L.Log.faults }) c.args.buffer.now c.args.number c.args.span c.loop-lane.logs.items c.in_ok-log.log c.loop-lane.lane c.push.new.self.items
+          new_logs_more g.L.Log c.args.buffer.now c.args.number c.args.span c.loop-lane.logs.items c.in_ok-log.log c.loop-lane.lane c.push.new.self.items
           c.loop-lane.invariant.each c.loop-lane.invariant.count
-          (new_log (record { dir = g.L.Log.dir; path = g.L.Log.path; text = g.L.Log.text; faults = g.L.Log.faults }) c.args.buffer.now c.loop-lane.buffer c.args.number c.args.span c.loop-lane.lane c.in_ok-log.log
+          (new_log g.L.Log c.args.buffer.now c.loop-lane.buffer c.args.number c.args.span c.loop-lane.lane c.in_ok-log.log
           still.dir still.path still.tells
           c.in_ok-log.ensures.child_dir c.in_ok-log.ensures.child_path c.in_ok-log.ensures.child_text c.in_ok-log.ensures.child_faults)
           (search rules);

@@ -7,7 +7,7 @@ use Rattle.lane_runner.proofs.children.children.Given as goal
 
 abbrev pub invariant-loop-lane : goal.invariant-loop-lane
 invariant-loop-lane g l = record {
-  each : EachIsNew (record { dir = g.L.Log.dir; path = g.L.Log.path; text = g.L.Log.text; faults = g.L.Log.faults }) l.fn.buffer l.number l.span l.logs.items;
+  each : EachIsNew g.L.Log l.fn.buffer l.number l.span l.logs.items;
   count : length l.logs.items ≡ l.lane;
   still : IsStill l.fn.buffer l.buffer;
   waiting : l.buffer.waiting ≡ l.fn.buffer.waiting;

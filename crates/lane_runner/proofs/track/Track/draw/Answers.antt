@@ -32,8 +32,8 @@ loop_after-self-inside-requires g c =
 
 pub returns-clause-goes : goal.returns-clause-goes
 returns-clause-goes g c =
-    let mid : Progress = record { hand = c.self.inside.hand; buffer = c.self.inside.buffer; tally = record { draws = c.self.inside.draws; next_loop = c.self.inside.next_loop; forked = c.self.inside.forked }; done = entries_of (record { dir = g.L.Log.dir; path = g.L.Log.path; text = g.L.Log.text; faults = g.L.Log.faults }) c.self.inside.done.items } in
-    let new : Progress = record { hand = c.self.inside.hand; buffer = c.put.new.self; tally = record { draws = c.draw-number.new.hand; next_loop = c.loop_after-self-inside.result; forked = c.self.inside.forked }; done = entries_of (record { dir = g.L.Log.dir; path = g.L.Log.path; text = g.L.Log.text; faults = g.L.Log.faults }) c.self.inside.done.items } in
+    let mid : Progress = record { hand = c.self.inside.hand; buffer = c.self.inside.buffer; tally = record { draws = c.self.inside.draws; next_loop = c.self.inside.next_loop; forked = c.self.inside.forked }; done = entries_of g.L.Log c.self.inside.done.items } in
+    let new : Progress = record { hand = c.self.inside.hand; buffer = c.put.new.self; tally = record { draws = c.draw-number.new.hand; next_loop = c.loop_after-self-inside.result; forked = c.self.inside.forked }; done = entries_of g.L.Log c.self.inside.done.items } in
     let number : ℕ = c.draw-number.result in
     let room = subst (λ (p : Progress). HasRoomFor c.args.self.now p) (sym c.self.view_is) c.in_ok-ready.ensures.room in
     let least : c.min-drawn.result ≡ min number c.args.chunks = search rules in

@@ -36,19 +36,19 @@ module _ (old mid : Progress) (new : Buffered) (room : HasRoomFor old mid) (stil
 pub put-requires : goal.put-requires
 put-requires g c =
     let room = subst (λ (p : Progress). HasRoomFor c.args.self.now p) (sym c.self.view_is) c.in_ok-ready.ensures.room in
-    (search rules, (search rules, may_still c.args.self.now (record { hand = c.self.inside.hand; buffer = c.self.inside.buffer; tally = record { draws = c.self.inside.draws; next_loop = c.self.inside.next_loop; forked = c.self.inside.forked }; done = entries_of (record { dir = g.L.Log.dir; path = g.L.Log.path; text = g.L.Log.text; faults = g.L.Log.faults }) c.self.inside.done.items }) c.children.new.buffer room c.children.ensures.still c.children.ensures.waiting c.in-Ok.ensures.unrefused))
+    (search rules, (search rules, may_still c.args.self.now (record { hand = c.self.inside.hand; buffer = c.self.inside.buffer; tally = record { draws = c.self.inside.draws; next_loop = c.self.inside.next_loop; forked = c.self.inside.forked }; done = entries_of g.L.Log c.self.inside.done.items }) c.children.new.buffer room c.children.ensures.still c.children.ensures.waiting c.in-Ok.ensures.unrefused))
 
 pub returns-in-Err-clause-takes : goal.returns-in-Err-clause-takes
 returns-in-Err-clause-takes g c =
     let room = subst (λ (p : Progress). HasRoomFor c.args.self.now p) (sym c.self.view_is) c.in_ok-ready.ensures.room in (
-      still_waits c.args.self.now (record { hand = c.self.inside.hand; buffer = c.self.inside.buffer; tally = record { draws = c.self.inside.draws; next_loop = c.self.inside.next_loop; forked = c.self.inside.forked }; done = entries_of (record { dir = g.L.Log.dir; path = g.L.Log.path; text = g.L.Log.text; faults = g.L.Log.faults }) c.self.inside.done.items }) c.children.new.buffer room c.children.ensures.still c.children.ensures.records,
+      still_waits c.args.self.now (record { hand = c.self.inside.hand; buffer = c.self.inside.buffer; tally = record { draws = c.self.inside.draws; next_loop = c.self.inside.next_loop; forked = c.self.inside.forked }; done = entries_of g.L.Log c.self.inside.done.items }) c.children.new.buffer room c.children.ensures.still c.children.ensures.records,
       record { refused = c.in-Err.ensures.refused },
     )
 
 pub returns-clause-takes : goal.returns-clause-takes
 returns-clause-takes g c =
     let room = subst (λ (p : Progress). HasRoomFor c.args.self.now p) (sym c.self.view_is) c.in_ok-ready.ensures.room in
-    let waits = still_waits c.args.self.now (record { hand = c.self.inside.hand; buffer = c.self.inside.buffer; tally = record { draws = c.self.inside.draws; next_loop = c.self.inside.next_loop; forked = c.self.inside.forked }; done = entries_of (record { dir = g.L.Log.dir; path = g.L.Log.path; text = g.L.Log.text; faults = g.L.Log.faults }) c.self.inside.done.items }) c.children.new.buffer room c.children.ensures.still c.children.ensures.records in
+    let waits = still_waits c.args.self.now (record { hand = c.self.inside.hand; buffer = c.self.inside.buffer; tally = record { draws = c.self.inside.draws; next_loop = c.self.inside.next_loop; forked = c.self.inside.forked }; done = entries_of g.L.Log c.self.inside.done.items }) c.children.new.buffer room c.children.ensures.still c.children.ensures.records in
     took (event kind.Region c.args.line 0 c.args.span) c.args.self.now.hand.view c.args.self.now _ waits (subst (λ (n : ℕ). n < log_limit) (sym c.children.ensures.still.count) room.may_put.below) c.in-Ok.ensures.unrefused
     (room.waits.hand ∙ hand_still c.args.self.now.hand c.requires.puts.there)
     c.put.ensures.put

@@ -1,6 +1,7 @@
 use Rattle.std.proofs.Common.{Ok, Err, ◌≡◌, refl, ap, sym, ◌∙◌, subst, ℕ, ◌+◌, ◌<◌, ◌≤◌, List, [], length, ℤ, rules}
 use Rattle.std.proofs.lemmas.List.{length-map}
 use Rattle.std.proofs.lemmas.Result.{err_from_is_err_and}
+use Rattle.sw_base.specs.declared.environment.Log.{Ghosts}
 use Rattle.sw_base.specs.declared.closed_log.ClosedLog.{ClosedLog}
 use Rattle.sw_base.specs.declared.path.Step.{Step}
 use Rattle.log_format.specs.declared.record.Kind.TheVariants as kind
@@ -14,7 +15,7 @@ use Rattle.kernel_model.proofs.Growing.{run-grows}
 use Rattle.kernel_model.proofs.RunEffects.{makes-Parallel_full}
 use Rattle.shared_words.specs.declared.view.View.{View}
 use Rattle.shared_words.specs.Handles.{HandValue}
-use Rattle.lane_runner.specs.Children.{AreNewLogs, LogView}
+use Rattle.lane_runner.specs.Children.{AreNewLogs}
 use Rattle.lane_runner.specs.Drawing.{Tally}
 use Rattle.lane_runner.specs.Forking.{Answer, RanRegion, IsReady}
 use Rattle.lane_runner.specs.Going.{Progress, Takes, Began, Made, AtRegion, AtTasks, site}
@@ -37,7 +38,7 @@ ready_after w team old a can free taken = record {
 }
 
 -- what the region did, by the number that the task had before its record, and how the lane goes on
-module _ {T : Type 0} {seen : LogView T} (w : WorldValue) (team : TeamTree) (some : 1 ≤ team.line) (slots : List ℤ) {old mid : Progress} (can : CanGo w old) (free : old.hand.view.held ≡ [])
+module _ {T : Type 0} {seen : Ghosts T} (w : WorldValue) (team : TeamTree) (some : 1 ≤ team.line) (slots : List ℤ) {old mid : Progress} (can : CanGo w old) (free : old.hand.view.held ≡ [])
     (taken : Takes (event kind.Region team.line 0 team.span) old.hand.view old mid) {logs : List T} (fresh : AreNewLogs seen old.buffer old.tally.forked team.span logs) (after : HandValue View) (done : List (ClosedLog T)) (r : Answer)
     (ran : IsReady mid.hand w.words → AreNewLogs seen old.buffer mid.tally.forked team.span logs → RanRegion w team slots old.buffer mid.tally.forked mid.hand after mid.done (entries_of seen done) r) where
   abbrev new : Progress
@@ -64,7 +65,7 @@ module _ {T : Type 0} {seen : LogView T} (w : WorldValue) (team : TeamTree) (som
 pub region-requires : goal.region-requires
 region-requires g c =
     let team : TeamTree = team_of c.args.team.now in
-    let mid : Progress = record { hand = c.self.inside.hand; buffer = c.self.inside.buffer; tally = record { draws = c.self.inside.draws; next_loop = c.self.inside.next_loop; forked = c.self.inside.forked }; done = entries_of (record { dir = g.L.Log.dir; path = g.L.Log.path; text = g.L.Log.text; faults = g.L.Log.faults }) c.self.inside.done.items } in
+    let mid : Progress = record { hand = c.self.inside.hand; buffer = c.self.inside.buffer; tally = record { draws = c.self.inside.draws; next_loop = c.self.inside.next_loop; forked = c.self.inside.forked }; done = entries_of g.L.Log c.self.inside.done.items } in
     let taken = subst (λ (p : Progress). Takes (event kind.Region team.line 0 team.span) c.args.self.now.hand.view c.args.self.now p) (sym c.self.view_is) c.in_ok-logs.ensures.takes in
     let ready = ready_after c.args.world.now team c.args.self.now mid c.requires.can c.requires.free taken in
     let new = c.in_ok-logs.ensures.logs in

@@ -18,7 +18,7 @@ no_room line old new (fault.Trouble trouble) full waits refused = (waits, record
 
 pub returns-in-Err-clause-room : goal.returns-in-Err-clause-room
 returns-in-Err-clause-room g c =
-    let with : Buffered → Progress = λ b. record { hand = c.self.inside.hand; buffer = b; tally = record { draws = c.self.inside.draws; next_loop = c.self.inside.next_loop; forked = c.self.inside.forked }; done = entries_of (record { dir = g.L.Log.dir; path = g.L.Log.path; text = g.L.Log.text; faults = g.L.Log.faults }) c.self.inside.done.items } in
+    let with : Buffered → Progress = λ b. record { hand = c.self.inside.hand; buffer = b; tally = record { draws = c.self.inside.draws; next_loop = c.self.inside.next_loop; forked = c.self.inside.forked }; done = entries_of g.L.Log c.self.inside.done.items } in
     let now = c.ready.new.self in
     let says = c.ready.ensures in
     subst (λ (why : Stop). MakesRoom c.args.line c.args.self.now (with now) (lane_answer (Err why))) (sym c.stop_for.ensures)
@@ -30,7 +30,7 @@ returns-in-Err-clause-room g c =
 
 pub returns-clause-room : goal.returns-clause-room
 returns-clause-room g c =
-    let now : Progress = record { hand = c.self.inside.hand; buffer = c.ready.new.self; tally = record { draws = c.self.inside.draws; next_loop = c.self.inside.next_loop; forked = c.self.inside.forked }; done = entries_of (record { dir = g.L.Log.dir; path = g.L.Log.path; text = g.L.Log.text; faults = g.L.Log.faults }) c.self.inside.done.items } in
+    let now : Progress = record { hand = c.self.inside.hand; buffer = c.ready.new.self; tally = record { draws = c.self.inside.draws; next_loop = c.self.inside.next_loop; forked = c.self.inside.forked }; done = entries_of g.L.Log c.self.inside.done.items } in
     subst (λ (p : Progress). HasRoomFor p now) c.self.view_is
     (record {
       waits = record { hand = refl; records = c.ready.ensures.records; count = c.ready.ensures.still.count; path = c.ready.ensures.still.path; place = same_place c.self.inside.buffer c.ready.new.self c.ready.ensures.still; tally = refl; done = refl };
