@@ -3,6 +3,7 @@ use Rattle.std.proofs.Common.{◌≡◌, sym, subst, ℕ, List}
 use denote.Ref.{Bor, MutBor}
 use Rattle.std.specs.Prelude.{All}
 use Rattle.std.specs.Global.{Vec}
+use Rattle.sw_base.specs.declared.environment.Log.{Ghosts}
 use Rattle.sw_base.specs.declared.closed_log.ClosedLog.{ClosedLog}
 use Rattle.sw_base.specs.declared.path.Step.{Step}
 use Rattle.event_buffer.specs.Buffered.{Buffered}
@@ -14,7 +15,6 @@ use Rattle.kernel_model.specs.declared.phase.Item.TheVariants as item
 use Rattle.shared_words.specs.declared.view.View.{View}
 use Rattle.shared_words.specs.Handles.{HandValue}
 use Rattle.task_place.specs.declared.locals.Locals.{Locals}
-use Rattle.lane_runner.specs.Children.{LogView}
 use Rattle.lane_runner.specs.Forking.{Answer}
 use Rattle.lane_runner.specs.Teams.{EachTeamIn, MayFork}
 use Rattle.lane_runner.specs.World.{WorldValue}
@@ -30,7 +30,7 @@ item_forks P Q each (item.Bar line) h = tt
 -- who runs each inner team, runs those of a lawful phase
 pub phase_forks : {T : Type 0} (w w' : WorldValue) (accepts : MutBor (HandValue View) → Bor Locals → ℕ → Vec T → Bor Team → MutBor (Vec (ClosedLog T)) → Type 0)
     (gives : MutBor (HandValue View) → Bor Locals → ℕ → Vec T → Bor Team → MutBor (Vec (ClosedLog T)) → Answer → MutBor (HandValue View) → MutBor (Vec (ClosedLog T)) → Type 0)
-    (seen : LogView T) (task : Buffered) (mutexes regions : ℕ) (items : List Item) → w' ≡ w → IsLawfulPhase mutexes regions items → ((team : TeamTree) → IsInnerTeam mutexes regions team → MayFork w accepts gives seen task team)
+    (seen : Ghosts T) (task : Buffered) (mutexes regions : ℕ) (items : List Item) → w' ≡ w → IsLawfulPhase mutexes regions items → ((team : TeamTree) → IsInnerTeam mutexes regions team → MayFork w accepts gives seen task team)
     → All (EachTeamIn (MayFork w' accepts gives seen task)) items
 phase_forks w w' accepts gives seen task mutexes regions items is lawful each =
     subst (λ (x : WorldValue). All (EachTeamIn (MayFork x accepts gives seen task)) items) (sym is)

@@ -7,6 +7,7 @@ use Rattle.std.proofs.lemmas.Bool.{cases_lt}
 use Rattle.std.proofs.lemmas.List.{append-nil}
 use Rattle.std.proofs.lemmas.List.Elements.{All-cons, All-nil}
 use Rattle.std.proofs.lemmas.List.Sums.{sum_by-cons}
+use Rattle.sw_base.specs.declared.environment.Log.{Ghosts}
 use Rattle.sw_base.specs.declared.closed_log.ClosedLog.{ClosedLog}
 use Rattle.sw_base.specs.declared.path.Step.{Step}
 use Rattle.sw_base.specs.declared.trouble.Trouble.TheVariants.{Memory}
@@ -43,7 +44,6 @@ use Rattle.execution_laws.proofs.Prefixes.{ends_same}
 use Rattle.execution_laws.proofs.Whole.{execution}
 use Rattle.lane_runner.specs.declared.stop.Stop.{Stop}
 use Rattle.lane_runner.specs.declared.stop.Stop.TheVariants as stop
-use Rattle.lane_runner.specs.Children.{LogView}
 use Rattle.lane_runner.specs.Forking.{Answer, stop_in}
 use Rattle.lane_runner.specs.Handed.{AreEntriesOf, Entry, IsEntryOf, Keeps, LogPlace, TellStop, entries_of, entry_of}
 use Rattle.lane_runner.specs.Stopping.{LastIsRegionAt}
@@ -111,7 +111,7 @@ kept_whole text path records size faults keeps t told = by (keeps t told) where
   by (Keeps.whole all) = all
   by (Keeps.torn lacks prefix) = absurd lacks
 
-module _ {T : Type 0} (seen : LogView T) (dir : List ℕ) (size : ℕ) (root : Option Text) where
+module _ {T : Type 0} (seen : Ghosts T) (dir : List ℕ) (size : ℕ) (root : Option Text) where
   abbrev place : LogPlace
   place = record { dir = dir; size = size; tells = is_some root }
 
@@ -246,7 +246,7 @@ module _ (program : Program) (lawful : IsLawful program) (dir : List ℕ) (size 
         let whole = whole_folder program tasks (element_address program.arrays) words executed (are_listed 4 work nests) root_ended in
         record { traced = whole; rules = folder_keeps program lawful tasks whole (are_listed 4 work nests) few_tasks; execution = executed; all = all }
 
-    pub has_finished : {T : Type 0} (seen : LogView T) (items : List (ClosedLog T)) → logs ≡ entries_of seen items → HasRun program dir size root (map (handed_log seen.dir seen.path seen.text) items) words × AreFaultless seen.faults items
+    pub has_finished : {T : Type 0} (seen : Ghosts T) (items : List (ClosedLog T)) → logs ≡ entries_of seen items → HasRun program dir size root (map (handed_log seen.dir seen.path seen.text) items) words × AreFaultless seen.faults items
     has_finished seen items same = (
       record { tasks = tasks; run = is_run; logs_are = all_whole seen dir size root tasks items logs same ended_entries; few = few_tasks },
       all_faultless seen dir size root tasks items logs same ended_entries,

@@ -5,6 +5,7 @@ use Rattle.log_format.specs.declared.format.TheConstants.{FORMAT}
 use Rattle.log_format.specs.declared.record.Record.{Record}
 use Rattle.log_format.specs.Format.{log_header}
 use Rattle.log_format.specs.Spelling.{log_bytes}
+use Rattle.sw_base.specs.declared.environment.Log.{Ghosts}
 use Rattle.sw_base.specs.declared.closed_log.ClosedLog.{ClosedLog}
 use Rattle.sw_base.specs.declared.path.Step.{Step}
 use Rattle.sw_base.specs.declared.trouble.Trouble.TheVariants.{Memory}
@@ -24,7 +25,6 @@ use Rattle.history_model.specs.Joined.{LastIsEnd}
 use Rattle.execution_model.specs.Execution.{IsExecution}
 use Rattle.lane_runner.specs.declared.stop.Stop.{Stop}
 use Rattle.lane_runner.specs.declared.stop.Stop.TheVariants as stop
-use Rattle.lane_runner.specs.Children.{LogView}
 use Rattle.lane_runner.specs.Handed.{AreEntriesOf, Entry, TellStop, entries_of}
 use Rattle.lane_runner.specs.Stopping.{GoesFurther, IsNoTrouble, LastIsRegionAt, ending_for}
 use Rattle.execution_model.specs.Elements.{element_address}
@@ -107,7 +107,7 @@ pub record HasStoppedRun (program : Program) (dir : List ℕ) (size : ℕ) (root
   pub tell : TellStop (Some (path, why)) logs
 
 -- the log of the root before a run: nothing was appended to it, and no call on it failed
-pub record IsRootLog {T : Type 0} (seen : LogView T) (root : T) : Type 0 where
+pub record IsRootLog {T : Type 0} (seen : Ghosts T) (root : T) : Type 0 where
   pub own : seen.path root ≡ []
   pub empty : WhereTold (seen.text root) (λ text. text ≡ empty_text)
   pub no_faults : seen.faults root ≡ 0
@@ -115,7 +115,7 @@ pub record IsRootLog {T : Type 0} (seen : LogView T) (root : T) : Type 0 where
 -- What the run of a kernel answers, whose root had this log. If it ended, the logs are those of the kernel's tasks, each with its whole trace
 -- under what it read, cut into pieces that fill the buffer, and all that they did has one legal history, which ends in the words; and no call
 -- on a log failed. If it stopped, the logs are those of the beginning of such a run, and tell why it stopped.
-pub record AnswersRun {T : Type 0} (seen : LogView T) (program : Program) (root : T) (size : ℕ) (answer : Result (Finished T) (Stopped T)) : Type 0 where
+pub record AnswersRun {T : Type 0} (seen : Ghosts T) (program : Program) (root : T) (size : ℕ) (answer : Result (Finished T) (Stopped T)) : Type 0 where
   pub finished : IfOk answer (λ f. HasRun program (seen.dir root) size (seen.text root) (map (handed_log seen.dir seen.path seen.text) f.logs.items) f.words.items)
   pub no_fault : IfOk answer (λ f. AreFaultless seen.faults f.logs.items)
   pub stopped : IfErr answer (λ s. HasStoppedRun program (seen.dir root) size (seen.text root) (entries_of seen s.logs.items) s.path s.why s.words.items)

@@ -1,5 +1,6 @@
 -- What all regions of a run have in common.
 use Rattle.std.specs.Prelude.{◌≡◌, ℕ, ◌+◌, List, length}
+use Rattle.sw_base.specs.declared.environment.Log.{Ghosts}
 use Rattle.sw_base.specs.declared.path.Step.{Step}
 use Rattle.event_buffer.specs.Buffered.{Buffered}
 use Rattle.kernel_syntax.specs.declared.syntax.Array.{Array}
@@ -7,7 +8,7 @@ use Rattle.kernel_syntax.specs.Layout.{ArePlaced}
 use Rattle.kernel_syntax.specs.Tree.{TeamTree}
 use Rattle.kernel_model.specs.declared.phase.Item.{Item}
 use Rattle.shared_words.specs.Handles.{ChunksValue, WordsValue}
-use Rattle.lane_runner.specs.Children.{AreNewLogs, LogView}
+use Rattle.lane_runner.specs.Children.{AreNewLogs}
 use Rattle.execution_model.specs.Elements.{HaveOwnWords}
 use Rattle.region_runner.specs.Answer.{IsBufferSize}
 use Rattle.region_runner.specs.Crew.{CrewValue}
@@ -43,7 +44,7 @@ pub record IsOurPhase (g : GroundValue) (regions : ℕ) (items : List Item) : Ty
   pub lawful : IsLawfulPhase mutexes regions items
 
 -- the logs are new ones of the lanes of the region of this number of the task at this path
-pub record AreLanesLogs {T : Type 0} (g : GroundValue) (seen : LogView T) (path : List Step) (number span : ℕ) (logs : List T) : Type 0 where
+pub record AreLanesLogs {T : Type 0} (g : GroundValue) (seen : Ghosts T) (path : List Step) (number span : ℕ) (logs : List T) : Type 0 where
   pub task : Buffered
   pub path_is : task.path ≡ path
   pub size_is : task.size ≡ g.size

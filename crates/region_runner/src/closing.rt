@@ -32,8 +32,8 @@ impl<L: Log> Model for Closed<L> {
 
     ghost view = { λ c. record {
       path = c.own.path;
-      own = entry_of (record { dir = L.dir; path = L.path; text = L.text; faults = L.faults }) c.own;
-      below = entries_of (record { dir = L.dir; path = L.path; text = L.text; faults = L.faults }) c.below.items;
+      own = entry_of L.Log c.own;
+      below = entries_of L.Log c.below.items;
       halt = halt_of c.own.path c.stopped;
       refused = c.refused;
       draws = c.draws;

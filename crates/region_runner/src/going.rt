@@ -28,7 +28,8 @@ impl<L: Log> Viewed for Lane<L> {
     ghost seen = { λ lane. lane };
 }
 
-/// How a team does its phases. A call at `Brand` picks it.
+/// How a team does its phases. A clause can't take a fact as a value, so it takes a type that has one. `Brand` stands for
+/// any such type: what the facts are is said where a function is called at it, beside that call's proof.
 pub trait TeamFacts {
     ghost use Rattle.std.specs.Prelude.{ℕ, List};
     ghost use Rattle.shared_words.specs.declared.view.View.{View};
@@ -81,9 +82,18 @@ impl<M: Viewed, J: TeamFacts> TeamKey<Hand, M> for RegionKey<J> {
     ghost stopped = { of_lanes M.seen J.stopped };
 }
 
-// A team with these facts goes through its phases. They are picked by its plan: what all regions have in common, how deep its lanes can
-// fork, its crew, its phases, and the line of its end.
-fn told<
+// What a team is to do: in which run, how deep its lanes can fork, with which crew, in which phases, and the line of its end.
+#[derive(Drop)]
+struct Plan<'a, G: LiveGate> {
+    ground: &'a Ground<'a, G>,
+    depth: u32,
+    crew: &'a Crew<'a>,
+    phases: &'a [Phase<'a>],
+    end: u32,
+}
+
+// A team with these facts goes through the phases of its plan, which the call's proof makes the facts of.
+fn go_by_plan<
     J: TeamFacts + Send + Sync + 'static,
     R: Threads + Wait + Sync + Copy + Send + 'static,
     M: Viewed + Drop + Send + 'static,
@@ -96,7 +106,7 @@ fn told<
 >(
     rt: &R,
     alloc: Global,
-    plan: (&Ground<'_, G>, u32, &Crew<'_>, &[Phase<'_>], u32),
+    plan: &Plan<'_, G>,
     hand: Hand,
     lanes: Vec<M>,
     task: &T,
@@ -108,17 +118,17 @@ fn told<
     requires span { (1 ≤ length lanes.items) × (length lanes.items ≤ 64) }
     requires started { S.IsAlwaysCallable started.now }
     requires builder { Z.IsAlwaysCallable builder.now }
-    requires does { DoesPhases (T.pre task.now) (T.post task.now) (B.pre part.now) (B.post part.now) (A.pre meet.now) (A.post meet.now) (length lanes.items) (length plan.3.now)
+    requires does { DoesPhases (T.pre task.now) (T.post task.now) (B.pre part.now) (B.post part.now) (A.pre meet.now) (A.post meet.now) (length lanes.items) (length plan.now.phases.now)
         (of_lanes M.seen J.stands) (of_lanes M.seen J.parted) (of_lanes M.seen J.stopped) (of_lane M.seen J.may) (of_step M.seen J.did) }
     requires stands { of_lanes M.seen J.stands 0 hand lanes.items }
     ensures count { length result.1.items ≡ length lanes.items }
-    ensures ran { Ran (of_lanes M.seen J.stands) (of_lanes M.seen J.stopped) (length plan.entry.3.now) result.0 result.1.items result.2 }
+    ensures ran { Ran (of_lanes M.seen J.stands) (of_lanes M.seen J.stopped) (length plan.now.phases.now) result.0 result.1.items result.2 }
 {
     in_phases::<RegionKey<J>, R, Hand, M, T, S, Z, B, A>(
         rt,
         alloc,
-        plan.0.stays(),
-        plan.3.len(),
+        plan.ground.stays(),
+        plan.phases.len(),
         hand,
         lanes,
         task,
@@ -131,6 +141,7 @@ fn told<
 
 /// A team goes through its phases, with threads that stay, where the run has it so. Gives the hand, and the lanes in their order.
 pub(crate) fn go_through<
+    'a,
     R: Threads + Wait + Sync + Copy + Send + 'static,
     M: Viewed + Drop + Send + 'static,
     G: LiveGate,
@@ -141,9 +152,9 @@ pub(crate) fn go_through<
     rt: &R,
     alloc: Global,
     depth: u32,
-    ground: &Ground<'_, G>,
-    crew: &Crew<'_>,
-    phases: &[Phase<'_>],
+    ground: &'a Ground<'a, G>,
+    crew: &'a Crew<'a>,
+    phases: &'a [Phase<'a>],
     end: u32,
     hand: Hand,
     lanes: Vec<M>,
@@ -159,10 +170,17 @@ pub(crate) fn go_through<
     ensures count { length result.1.items ≡ length lanes.items }
     ensures ran { TeamRan crew.now phases.now end hand result.0 (map M.seen lanes.items) (map M.seen result.1.items) }
 {
-    let (home, after, _) = told::<Brand, R, M, G, T, _, _, B, A>(
+    let plan = Plan {
+        ground,
+        depth,
+        crew,
+        phases,
+        end,
+    };
+    let (home, after, _) = go_by_plan::<Brand, R, M, G, T, _, _, B, A>(
         rt,
         alloc,
-        (ground, depth, crew, phases, end),
+        &plan,
         hand,
         lanes,
         task,

@@ -17,8 +17,7 @@ use crate::ground::Ground;
 use event_buffer::Buffer;
 use lane_runner::{Lane, Locals, Track};
 use shared_words::{ChunkHand, Chunks, Hand};
-use std::alloc::AllocError;
-use std::alloc::Global;
+use std::alloc::{AllocError, Global};
 use std::sync::Wait;
 use std::thread::Threads;
 use sw_base::{ClosedLog, Log, Path, Trouble};
@@ -36,7 +35,7 @@ pub(crate) enum Opened<L: Log> {
 fn torn<L: Log>(alloc: Global, path: Path, log: L, draws: ChunkHand, trouble: Trouble) -> Closed<L>
     ensures { result ≡ record {
       path = path;
-      own = entry_of (record { dir = L.dir; path = L.path; text = L.text; faults = L.faults }) (record { path = path; log = log; records = 0 });
+      own = entry_of L.Log (record { path = path; log = log; records = 0 });
       below = [];
       halt = None;
       refused = Some trouble;
@@ -60,8 +59,8 @@ fn torn<L: Log>(alloc: Global, path: Path, log: L, draws: ChunkHand, trouble: Tr
 const ROOM: usize = 16;
 
 // A lane's copy of the locals.
-fn copied(alloc: Global, slots: &[i64]) -> Result<Vec<i64>, AllocError>
-    ensures { IfOk result (λ copy. copy.items ≡ slots.now) }
+fn copied(alloc: Global, slots: &Vec<i64>) -> Result<Vec<i64>, AllocError>
+    ensures { IfOk result (λ copy. copy.items ≡ slots.now.items) }
 {
     let mut copy = Vec::with_capacity(alloc, slots.len().max(ROOM))?;
     copy.extend_from_slice(slots)?;
@@ -115,11 +114,11 @@ fn open_all<R: Threads, L: Log, G: LiveGate>(
     requires span { span ≤ 64 }
     requires share { Belongs share.old chunks.now.table }
     requires whole { share.old.view ≡ whole_share }
-    requires logs { AreLanesLogs ground.now (record { dir = L.dir; path = L.path; text = L.text; faults = L.faults }) at.now number span logs.items }
+    requires logs { AreLanesLogs ground.now L.Log at.now number span logs.items }
     ensures count { IfSome result (λ opened. length opened.items ≡ span) }
     ensures share { IfSome result (λ opened. share.new ≡ lent_to span share.old) }
     ensures opens { (task : Buffered) → task.path ≡ at.now → task.size ≡ ground.now.size
-        → AreNewLogs (record { dir = L.dir; path = L.path; text = L.text; faults = L.faults }) task number span logs.items
+        → AreNewLogs L.Log task number span logs.items
         → IfSome result (λ opened. (k : ℕ) (d : _) → k < span → OpensAs (place_of task) (lane_of at.now number k span) locals.now.slots.items (lent_hand share.old) (slice_index_or opened.items k d)) }
 {
     let mut opened = Vec::new(alloc);
@@ -198,9 +197,9 @@ pub(crate) fn open<R: Threads + Wait, L: Log, G: LiveGate>(
     requires span { span ≤ 64 }
     requires share { Belongs share.old chunks.now.table }
     requires whole { share.old.view ≡ whole_share }
-    requires logs { AreLanesLogs ground.now (record { dir = L.dir; path = L.path; text = L.text; faults = L.faults }) at.now number span logs.items }
+    requires logs { AreLanesLogs ground.now L.Log at.now number span logs.items }
     ensures opens { (task : Buffered) → task.path ≡ at.now → task.size ≡ ground.now.size
-        → AreNewLogs (record { dir = L.dir; path = L.path; text = L.text; faults = L.faults }) task number span logs.items
+        → AreNewLogs L.Log task number span logs.items
         → OpensTeam (place_of task) at.now number span locals.now.slots.items share.old share.new result }
 {
     let Some(opened) = open_all(

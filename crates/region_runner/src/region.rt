@@ -84,12 +84,12 @@ pub(crate) fn run_task<R: Threads + Wait + Sync + Copy + Send + 'static, L: Log,
             requires deep { length path + depth ≡ 4 }
             requires team { IsOurTeam ground.now (length path + 1) (team_of team.now) }
             requires ready { IsReady hand.old ground.now.words }
-            requires logs { AreLanesLogs ground.now (record { dir = L.dir; path = L.path; text = L.text; faults = L.faults }) path number team.now.span logs.items }
+            requires logs { AreLanesLogs ground.now L.Log path number team.now.span logs.items }
             ensures ran { (w : WorldValue) (task : Buffered) → w.arrays ≡ ground.entry.now.arrays → task.path ≡ path → task.size ≡ ground.entry.now.size
-                → AreNewLogs (record { dir = L.dir; path = L.path; text = L.text; faults = L.faults }) task number team.now.span logs.items
+                → AreNewLogs L.Log task number team.now.span logs.items
                 → RanRegion w (team_of team.now) locals.now.slots.items task number hand.old hand.new
-                (entries_of (record { dir = L.dir; path = L.path; text = L.text; faults = L.faults }) done.old.items)
-                (entries_of (record { dir = L.dir; path = L.path; text = L.text; faults = L.faults }) done.new.items) result }
+                (entries_of L.Log done.old.items)
+                (entries_of L.Log done.new.items) result }
         {
             region(
                 rt,
@@ -172,9 +172,9 @@ fn run_phases<R: Threads + Wait + Sync + Copy + Send + 'static, L: Log, G: LiveG
         rt,
         alloc,
         depth,
-        ground,
-        crew,
-        phases,
+        &*ground,
+        &*crew,
+        &*phases,
         end,
         own,
         lanes,
@@ -268,12 +268,12 @@ pub(crate) fn region<R: Threads + Wait + Sync + Copy + Send + 'static, L: Log, G
     requires deep { length path.now + depth + 1 ≡ 4 }
     requires team { IsOurTeam ground.now (length path.now + 1) (team_of team.now) }
     requires ready { IsReady hand.old ground.now.words }
-    requires logs { AreLanesLogs ground.now (record { dir = L.dir; path = L.path; text = L.text; faults = L.faults }) path.now number team.now.span logs.items }
+    requires logs { AreLanesLogs ground.now L.Log path.now number team.now.span logs.items }
     ensures ran { (w : WorldValue) (task : Buffered) → w.arrays ≡ ground.now.arrays → task.path ≡ path.now → task.size ≡ ground.now.size
-        → AreNewLogs (record { dir = L.dir; path = L.path; text = L.text; faults = L.faults }) task number team.now.span logs.items
+        → AreNewLogs L.Log task number team.now.span logs.items
         → RanRegion w (team_of team.now) locals.now.slots.items task number hand.old hand.new
-        (entries_of (record { dir = L.dir; path = L.path; text = L.text; faults = L.faults }) done.old.items)
-        (entries_of (record { dir = L.dir; path = L.path; text = L.text; faults = L.faults }) done.new.items) result }
+        (entries_of L.Log done.old.items)
+        (entries_of L.Log done.new.items) result }
 {
     let (Ok(phases), Ok(room)) = (
         phases(alloc, team),

@@ -81,7 +81,7 @@ pub(crate) fn run_root<R: Threads + Wait + Sync + Copy + Send + 'static, L: Log,
     requires arrays { ground.now.arrays ≡ kernel.now.arrays }
     requires locks { ground.now.words.locks ≡ length kernel.now.mutexes + 1 }
     requires ready { IsReady hand.old ground.now.words }
-    requires root { IsRootLog (record { dir = L.dir; path = L.path; text = L.text; faults = L.faults }) log }
+    requires root { IsRootLog L.Log log }
     ensures ran { RanRoot (program_of kernel.now) (record { dir = L.dir log; size = ground.now.size; tells = is_some (L.text log) }) hand.old hand.new result }
 {
     let (Ok(phases), Ok((chunks, draws)), Ok(locals)) = (
@@ -114,7 +114,7 @@ pub(crate) fn settle<L: Log>(
     alloc: Global,
     root: Option<Closed<L>>,
 ) -> (Vec<ClosedLog<L>>, Result<(), (Path, Stop)>)
-    ensures { IsSettled root (entries_of (record { dir = L.dir; path = L.path; text = L.text; faults = L.faults }) result.0.items) result.1 }
+    ensures { IsSettled root (entries_of L.Log result.0.items) result.1 }
 {
     let mut logs = Vec::new(alloc);
     let Some(root) = root else {

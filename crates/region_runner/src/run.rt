@@ -70,9 +70,9 @@ pub fn run_in_teams<R: Threads + Wait + Sync + Copy + Send + 'static, L: Log, G:
     stays: bool,
 ) -> Result<Finished<L>, Stopped<L>>
     requires lawful { IsLawful (program_of kernel.now) }
-    requires root { IsRootLog (record { dir = L.dir; path = L.path; text = L.text; faults = L.faults }) root }
+    requires root { IsRootLog L.Log root }
     requires size { IsBufferSize size }
-    ensures answers { AnswersRun (record { dir = L.dir; path = L.path; text = L.text; faults = L.faults }) (program_of kernel.now) root size result }
+    ensures answers { AnswersRun L.Log (program_of kernel.now) root size result }
 {
     let arrays = kernel.arrays.as_slice();
     let locks = kernel.mutexes.as_slice().len() + 1;
@@ -111,9 +111,9 @@ pub fn run_kernel<R: Threads + Wait + Sync + Copy + Send + 'static, L: Log, G: G
     gate: &G,
 ) -> Result<Finished<L>, Stopped<L>>
     requires lawful { IsLawful (program_of kernel.now) }
-    requires root { IsRootLog (record { dir = L.dir; path = L.path; text = L.text; faults = L.faults }) root }
+    requires root { IsRootLog L.Log root }
     requires size { IsBufferSize size }
-    ensures answers { AnswersRun (record { dir = L.dir; path = L.path; text = L.text; faults = L.faults }) (program_of kernel.now) root size result }
+    ensures answers { AnswersRun L.Log (program_of kernel.now) root size result }
 {
     let gate = WithoutStart::new(gate);
     run_in_teams(rt, alloc, kernel, root, size, &gate, false)
@@ -129,9 +129,9 @@ pub fn run_live<R: Threads + Wait + Sync + Copy + Send + 'static, L: Log, G: Liv
     gate: &G,
 ) -> Result<Finished<L>, Stopped<L>>
     requires lawful { IsLawful (program_of kernel.now) }
-    requires root { IsRootLog (record { dir = L.dir; path = L.path; text = L.text; faults = L.faults }) root }
+    requires root { IsRootLog L.Log root }
     requires size { IsBufferSize size }
-    ensures answers { AnswersRun (record { dir = L.dir; path = L.path; text = L.text; faults = L.faults }) (program_of kernel.now) root size result }
+    ensures answers { AnswersRun L.Log (program_of kernel.now) root size result }
 {
     run_in_teams(rt, alloc, kernel, root, size, gate, true)
 }

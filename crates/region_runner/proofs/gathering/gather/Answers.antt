@@ -38,7 +38,7 @@ take_in-verdict-requires-clause-split g c κs within =
 
 pub loop-lane-preserved-then-urgency : goal.loop-lane-preserved-then-urgency
 loop-lane-preserved-then-urgency g c =
-    let entries = entries_of (record { dir = g.L.Log.dir; path = g.L.Log.path; text = g.L.Log.text; faults = g.L.Log.faults }) in
+    let entries = entries_of g.L.Log in
     let turn = YieldsList-turn (YieldsList-from_vec {s = c.into_iter-lane-iterator.result} c.args.lanes.items (search rules) (search rules)) c.loop-lane.yielded c.loop-lane.lane-iterator c.loop-lane.yielded_by c.next.result c.next.new.self c.in-Some.lane c.in-Some.is c.next.ensures.steps in
     record {
       gathered = λ d.
@@ -50,7 +50,7 @@ loop-lane-preserved-then-urgency g c =
 
 pub loop-lane-preserved : goal.loop-lane-preserved
 loop-lane-preserved g c =
-    let entries = entries_of (record { dir = g.L.Log.dir; path = g.L.Log.path; text = g.L.Log.text; faults = g.L.Log.faults }) in
+    let entries = entries_of g.L.Log in
     let turn = YieldsList-turn (YieldsList-from_vec {s = c.into_iter-lane-iterator.result} c.args.lanes.items (search rules) (search rules)) c.loop-lane.yielded c.loop-lane.lane-iterator c.loop-lane.yielded_by c.next.result c.next.new.self c.in-Some.lane c.in-Some.is c.next.ensures.steps in
     record {
       gathered = λ d.
@@ -62,7 +62,7 @@ loop-lane-preserved g c =
 
 pub returns-clause-gathered : goal.returns-clause-gathered
 returns-clause-gathered g c = λ d.
-    let entries = entries_of (record { dir = g.L.Log.dir; path = g.L.Log.path; text = g.L.Log.text; faults = g.L.Log.faults }) in
+    let entries = entries_of g.L.Log in
     let end = YieldsList-end (YieldsList-from_vec {s = c.into_iter-lane-iterator.result} c.args.lanes.items (search rules) (search rules)) c.loop-lane.yielded _ c.loop-lane.yielded_by _ c.next.new.self c.in-None.is c.next.ensures.steps in
     subst (λ r. Gathered (length c.args.lanes.items) (λ k. slice_index_or c.args.lanes.items k d) (entries c.args.done.now.items) (entries c.loop-lane.done.items) r) (sym c.answer.ensures)
     (subst (λ (n : ℕ). Gathered n (λ k. slice_index_or c.args.lanes.items k d) (entries c.args.done.now.items) (entries c.loop-lane.done.items) (answer_for c.loop-lane.worst)) end.1

@@ -10,8 +10,8 @@ use Rattle.region_runner.proofs.gathering.gather.Given as goal
 abbrev pub invariant-loop-lane : goal.invariant-loop-lane
 invariant-loop-lane g l = record {
   gathered : (d : ClosedValue) → HasGathered (length l.yielded) (λ k. slice_index_or l.fn.lanes.items k d)
-      (entries_of (record { dir = g.L.Log.dir; path = g.L.Log.path; text = g.L.Log.text; faults = g.L.Log.faults }) l.fn.done.items)
-      (entries_of (record { dir = g.L.Log.dir; path = g.L.Log.path; text = g.L.Log.text; faults = g.L.Log.faults }) l.done.items) l.worst;
+      (entries_of g.L.Log l.fn.done.items)
+      (entries_of g.L.Log l.done.items) l.worst;
   share : l.share ≡ with_view l.fn.share (regained_all (map draws_view l.yielded) l.fn.share.view);
   all : 1 ≤ length l.yielded → IsFirstAlone l.share.view → HasEachOnce l.share.view;
 }

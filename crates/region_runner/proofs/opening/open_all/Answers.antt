@@ -3,11 +3,12 @@ use Rattle.std.specs.Prelude.{is_some}
 use Rattle.std.proofs.lemmas.List.{length_push}
 use Rattle.std.proofs.lemmas.Iterator.Adapters.{YieldsList-from_vec}
 use Rattle.std.proofs.lemmas.Iterator.Consumers.{YieldsList-turn, YieldsList-end}
+use Rattle.sw_base.specs.declared.environment.Log.{Ghosts}
 use Rattle.sw_base.specs.declared.path.Step.{Step}
 use Rattle.race_model.specs.Listing.{lane_of}
 use Rattle.shared_words.specs.declared.share.Share.{Share}
 use Rattle.shared_words.specs.Handles.{Belongs, HandValue}
-use Rattle.lane_runner.specs.Children.{IsNewLog, LogView}
+use Rattle.lane_runner.specs.Children.{IsNewLog}
 use Rattle.lane_runner.specs.Handed.{LogPlace, place_of}
 use Rattle.region_runner.specs.Gathering.{ClosedValue}
 use Rattle.lane_runner.specs.Lane.{IsLanePath, LaneValue}
@@ -54,7 +55,7 @@ open_lane-requires-clause-lane g c κs within =
 pub open_lane-requires-clause-path : goal.open_lane-requires-clause-path
 open_lane-requires-clause-path g c κs within =
     let turn = YieldsList-turn (YieldsList-from_vec {s = c.into_iter-log-iterator.result} c.args.logs.items (search rules) (search rules)) c.loop-log.yielded c.loop-log.log-iterator c.loop-log.yielded_by c.next.result c.next.new.self c.in-Some.log c.in-Some.is c.next.ensures.steps in
-    let seen : LogView g.row.L.Denot = record { dir = g.L.Log.dir; path = g.L.Log.path; text = g.L.Log.text; faults = g.L.Log.faults } in
+    let seen : Ghosts g.row.L.Denot = g.L.Log in
     let is_new : IsNewLog {T = g.row.L.Denot} seen c.requires.logs.task c.args.number c.args.span (length c.loop-log.yielded) c.in-Some.log =
     subst (λ (log : g.row.L.Denot). IsNewLog {T = g.row.L.Denot} seen c.requires.logs.task c.args.number c.args.span (length c.loop-log.yielded) log) (sym turn.1) (c.requires.logs.new.each (length c.loop-log.yielded) c.in-Some.log turn.0) in
     is_new.path
@@ -65,7 +66,7 @@ open_lane-requires-clause-path g c κs within =
 pub open_lane-requires-clause-empty : goal.open_lane-requires-clause-empty
 open_lane-requires-clause-empty g c κs within =
     let turn = YieldsList-turn (YieldsList-from_vec {s = c.into_iter-log-iterator.result} c.args.logs.items (search rules) (search rules)) c.loop-log.yielded c.loop-log.log-iterator c.loop-log.yielded_by c.next.result c.next.new.self c.in-Some.log c.in-Some.is c.next.ensures.steps in
-    let seen : LogView g.row.L.Denot = record { dir = g.L.Log.dir; path = g.L.Log.path; text = g.L.Log.text; faults = g.L.Log.faults } in
+    let seen : Ghosts g.row.L.Denot = g.L.Log in
     let is_new : IsNewLog {T = g.row.L.Denot} seen c.requires.logs.task c.args.number c.args.span (length c.loop-log.yielded) c.in-Some.log =
     subst (λ (log : g.row.L.Denot). IsNewLog {T = g.row.L.Denot} seen c.requires.logs.task c.args.number c.args.span (length c.loop-log.yielded) log) (sym turn.1) (c.requires.logs.new.each (length c.loop-log.yielded) c.in-Some.log turn.0) in
     is_new.empty
@@ -73,7 +74,7 @@ open_lane-requires-clause-empty g c κs within =
 pub open_lane-requires-clause-no_faults : goal.open_lane-requires-clause-no_faults
 open_lane-requires-clause-no_faults g c κs within =
     let turn = YieldsList-turn (YieldsList-from_vec {s = c.into_iter-log-iterator.result} c.args.logs.items (search rules) (search rules)) c.loop-log.yielded c.loop-log.log-iterator c.loop-log.yielded_by c.next.result c.next.new.self c.in-Some.log c.in-Some.is c.next.ensures.steps in
-    let seen : LogView g.row.L.Denot = record { dir = g.L.Log.dir; path = g.L.Log.path; text = g.L.Log.text; faults = g.L.Log.faults } in
+    let seen : Ghosts g.row.L.Denot = g.L.Log in
     let is_new : IsNewLog {T = g.row.L.Denot} seen c.requires.logs.task c.args.number c.args.span (length c.loop-log.yielded) c.in-Some.log =
     subst (λ (log : g.row.L.Denot). IsNewLog {T = g.row.L.Denot} seen c.requires.logs.task c.args.number c.args.span (length c.loop-log.yielded) log) (sym turn.1) (c.requires.logs.new.each (length c.loop-log.yielded) c.in-Some.log turn.0) in
     is_new.no_faults
@@ -89,7 +90,7 @@ overflow_add-lane g c =
 
 pub loop-log-preserved : goal.loop-log-preserved
 loop-log-preserved g c =
-    let seen : LogView g.row.L.Denot = record { dir = g.L.Log.dir; path = g.L.Log.path; text = g.L.Log.text; faults = g.L.Log.faults } in
+    let seen : Ghosts g.row.L.Denot = g.L.Log in
     let turn = YieldsList-turn (YieldsList-from_vec {s = c.into_iter-log-iterator.result} c.args.logs.items (search rules) (search rules)) c.loop-log.yielded c.loop-log.log-iterator c.loop-log.yielded_by c.next.result c.next.new.self c.in-Some.log c.in-Some.is c.next.ensures.steps in
     let more : length (c.loop-log.yielded ++ c.in-Some.log ∷ []) ≡ length c.loop-log.yielded + 1 = length_push c.loop-log.yielded c.in-Some.log in
     let pushed : c.push.new.self.items ≡ c.loop-log.opened.items ++ c.open_lane.result ∷ [] = search rules in

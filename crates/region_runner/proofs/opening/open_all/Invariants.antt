@@ -11,6 +11,6 @@ invariant-loop-log g l = record {
   lane : l.lane ≡ length l.yielded;
   count : length l.opened.items ≡ length l.yielded;
   share : l.share ≡ lent_to (length l.yielded) l.fn.share;
-  opens : (task : Buffered) → task.path ≡ l.at → task.size ≡ l.ground.size → AreNewLogs (record { dir = g.L.Log.dir; path = g.L.Log.path; text = g.L.Log.text; faults = g.L.Log.faults }) task l.number l.span l.fn.logs.items
+  opens : (task : Buffered) → task.path ≡ l.at → task.size ≡ l.ground.size → AreNewLogs g.L.Log task l.number l.span l.fn.logs.items
       → (k : ℕ) (d : _) → k < length l.yielded → OpensAs (place_of task) (lane_of l.at l.number k l.span) l.locals.slots.items (lent_hand l.fn.share) (slice_index_or l.opened.items k d);
 }

@@ -1,8 +1,9 @@
 use Rattle.std.proofs.Common.{rules, ◌≡◌, ◌∙◌, ap, subst, sym, arith, ℕ, ◌+◌, ◌-◌, ◌<◌, List, length, map, slice_index_or, refl, [], None, Some, Err, false}
+use Rattle.sw_base.specs.declared.environment.Log.{Ghosts}
 use Rattle.sw_base.specs.declared.path.Step.{Step}
 use Rattle.kernel_syntax.specs.Tree.{TeamTree}
 use Rattle.shared_words.specs.Handles.{WordsValue, Belongs, HandValue}
-use Rattle.lane_runner.specs.Children.{AreNewLogs, LogView}
+use Rattle.lane_runner.specs.Children.{AreNewLogs}
 use Rattle.lane_runner.specs.Handed.{entries_of, place_of}
 use Rattle.lane_runner.specs.Forking.{IsReady, RanRegion}
 use Rattle.region_runner.specs.LastPhase.{IsLast}
@@ -55,7 +56,7 @@ run_task-run_phase-requires-clause-runs g n c κs within =
     let deep : length c.path-path.result + c.args.depth ≡ 4 = subst (λ (p : List Step). length p + c.args.depth ≡ 4) (sym c.path-path.ensures.is) own.deep in
     let in_log : length c.args.lane.now.buffer.path ≡ length c.args.lane.now.path = ap (λ (p : List Step). length p) own.path_is in
     let mutexes = c.requires.phase.mutexes in
-    let seen : LogView g.row.L.Denot = record { dir = g.L.Log.dir; path = g.L.Log.path; text = g.L.Log.text; faults = g.L.Log.faults } in
+    let seen : Ghosts g.row.L.Denot = g.L.Log in
     phase_forks (world_of c.args.crew.now c.args.index) _ _ _ _ c.args.lane.now.buffer mutexes (4 - c.args.depth) c.args.phase.now c.world-world.ensures c.requires.phase.lawful
     (λ team inner. record {
       path = let d = own.deep in let i = inner.deeper in omega (arith, d, i, in_log);
@@ -271,7 +272,7 @@ run_team-returns g n c =
 pub region-returns-in_default : goal.region-returns-in_default
 region-returns-in_default g n c = record {
   ran = λ w task arrays at size new.
-      let before = entries_of {T = g.row.L.Denot} (record { dir = g.L.Log.dir; path = g.L.Log.path; text = g.L.Log.text; faults = g.L.Log.faults }) c.args.done.now.items in
+      let before = entries_of {T = g.row.L.Denot} g.L.Log c.args.done.now.items in
       subst (λ (a : List Step × Stop). RanRegion w (team_of c.args.team.now) c.args.locals.now.slots.items task c.args.number c.args.hand.now c.args.hand.now before before (Err a)) (sym c.no_memory.ensures)
       (no_memory_for w (team_of c.args.team.now) c.args.locals.now.slots.items task c.args.number c.args.hand.now before before c.requires.ready.free.belongs.there (lane_of c.args.path.now c.args.number 0 c.args.team.now.span)
       (record { lane = 0; below = []; path_is = ap (λ (p : List Step). lane_of p c.args.number 0 c.args.team.now.span) (sym at) }) refl);
@@ -280,7 +281,7 @@ region-returns-in_default g n c = record {
 pub region-returns-in_default-drawn_in : goal.region-returns-in_default-drawn_in
 region-returns-in_default-drawn_in g n c = record {
   ran = λ w task arrays at size new.
-      let before = entries_of {T = g.row.L.Denot} (record { dir = g.L.Log.dir; path = g.L.Log.path; text = g.L.Log.text; faults = g.L.Log.faults }) c.args.done.now.items in
+      let before = entries_of {T = g.row.L.Denot} g.L.Log c.args.done.now.items in
       subst (λ (a : List Step × Stop). RanRegion w (team_of c.args.team.now) c.args.locals.now.slots.items task c.args.number c.args.hand.now c.args.hand.now before before (Err a)) (sym c.no_memory-in_default-drawn_in.ensures)
       (no_memory_for w (team_of c.args.team.now) c.args.locals.now.slots.items task c.args.number c.args.hand.now before before c.requires.ready.free.belongs.there (lane_of c.args.path.now c.args.number 0 c.args.team.now.span)
       (record { lane = 0; below = []; path_is = ap (λ (p : List Step). lane_of p c.args.number 0 c.args.team.now.span) (sym at) }) refl);
@@ -289,7 +290,7 @@ region-returns-in_default-drawn_in g n c = record {
 pub region-returns-in_default-new : goal.region-returns-in_default-new
 region-returns-in_default-new g n c = record {
   ran = λ w task arrays at size new.
-      let before = entries_of {T = g.row.L.Denot} (record { dir = g.L.Log.dir; path = g.L.Log.path; text = g.L.Log.text; faults = g.L.Log.faults }) c.args.done.now.items in
+      let before = entries_of {T = g.row.L.Denot} g.L.Log c.args.done.now.items in
       subst (λ (a : List Step × Stop). RanRegion w (team_of c.args.team.now) c.args.locals.now.slots.items task c.args.number c.args.hand.now c.args.hand.now before before (Err a)) (sym c.no_memory-in_default-new.ensures)
       (no_memory_for w (team_of c.args.team.now) c.args.locals.now.slots.items task c.args.number c.args.hand.now before before c.requires.ready.free.belongs.there (lane_of c.args.path.now c.args.number 0 c.args.team.now.span)
       (record { lane = 0; below = []; path_is = ap (λ (p : List Step). lane_of p c.args.number 0 c.args.team.now.span) (sym at) }) refl);
@@ -298,7 +299,7 @@ region-returns-in_default-new g n c = record {
 pub region-returns-in-Nothing : goal.region-returns-in-Nothing
 region-returns-in-Nothing g n c = record {
   ran = λ w task arrays at size new.
-      let before = entries_of {T = g.row.L.Denot} (record { dir = g.L.Log.dir; path = g.L.Log.path; text = g.L.Log.text; faults = g.L.Log.faults }) c.args.done.now.items in
+      let before = entries_of {T = g.row.L.Denot} g.L.Log c.args.done.now.items in
       subst (λ (a : List Step × Stop). RanRegion w (team_of c.args.team.now) c.args.locals.now.slots.items task c.args.number c.args.hand.now c.args.hand.now before before (Err a)) (sym c.no_memory-in-Nothing.ensures)
       (no_memory_for w (team_of c.args.team.now) c.args.locals.now.slots.items task c.args.number c.args.hand.now before before c.requires.ready.free.belongs.there (lane_of c.args.path.now c.args.number 0 c.args.team.now.span)
       (record { lane = 0; below = []; path_is = ap (λ (p : List Step). lane_of p c.args.number 0 c.args.team.now.span) (sym at) }) refl);
@@ -383,8 +384,8 @@ region-gather-requires-clause-split g n c κs within = λ k d less.
 pub region-returns : goal.region-returns
 region-returns g n c = record {
   ran = λ w task arrays at size new.
-      let before = entries_of {T = g.row.L.Denot} (record { dir = g.L.Log.dir; path = g.L.Log.path; text = g.L.Log.text; faults = g.L.Log.faults }) c.args.done.now.items in
-      let after = entries_of {T = g.row.L.Denot} (record { dir = g.L.Log.dir; path = g.L.Log.path; text = g.L.Log.text; faults = g.L.Log.faults }) c.gather.new.done.items in
+      let before = entries_of {T = g.row.L.Denot} g.L.Log c.args.done.now.items in
+      let after = entries_of {T = g.row.L.Denot} g.L.Log c.gather.new.done.items in
       let team = team_of c.args.team.now in
       let slots = c.args.locals.now.slots.items in
       let lawful = c.requires.team.lawful in

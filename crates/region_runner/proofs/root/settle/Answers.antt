@@ -6,11 +6,11 @@ use Rattle.region_runner.proofs.root.settle.Goals as goal
 
 pub returns : goal.returns
 returns g c =
-    let after = entries_of {T = g.row.L.Denot} (record { dir = g.L.Log.dir; path = g.L.Log.path; text = g.L.Log.text; faults = g.L.Log.faults }) c.keep-draws.new.done.items in
+    let after = entries_of {T = g.row.L.Denot} g.L.Log c.keep-draws.new.done.items in
     subst (λ (o : Option ClosedValue). IsSettled o after c.answer.result) (sym c.in-Some.is)
     (record {
       verdict = c.keep-draws.result.1;
-      took = subst (λ (items : List _). TookIn c.in-Some.root (entries_of {T = g.row.L.Denot} (record { dir = g.L.Log.dir; path = g.L.Log.path; text = g.L.Log.text; faults = g.L.Log.faults }) items) after c.keep-draws.result.1)
+      took = subst (λ (items : List _). TookIn c.in-Some.root (entries_of {T = g.row.L.Denot} g.L.Log items) after c.keep-draws.result.1)
           c.new-logs.ensures.items c.keep-draws.ensures.taken;
       answer = c.answer.ensures;
     })

@@ -3,8 +3,8 @@ use Rattle.std.specs.Prelude.{length}
 use Rattle.kernel_syntax.specs.declared.syntax.Array.{Array}
 use Rattle.kernel_syntax.specs.Layout.{elements}
 use Rattle.kernel_syntax.specs.Program.{program_of}
+use Rattle.sw_base.specs.declared.environment.Log.{Ghosts}
 use Rattle.sw_base.specs.declared.path.Step.{Step}
-use Rattle.lane_runner.specs.Children.{LogView}
 use Rattle.lane_runner.specs.Handed.{entries_of}
 use Rattle.history_model.specs.Sound.{AreFitted}
 use Rattle.log_format.specs.Fitting.{IsWidth}
@@ -36,9 +36,9 @@ returns-in_default g c =
         finished = tt;
         no_fault = tt;
         stopped =
-            subst (λ (path : List Step). HasStoppedRun program dir c.args.size text (entries_of {T = g.row.L.Denot} (record { dir = g.L.Log.dir; path = g.L.Log.path; text = g.L.Log.text; faults = g.L.Log.faults }) c.new-in_default.result.items) path (stop.Trouble trouble.Memory) c.new-in_default-2.result.items) (sym c.root.ensures)
-            (subst (λ (words : List ℕ). HasStoppedRun program dir c.args.size text (entries_of {T = g.row.L.Denot} (record { dir = g.L.Log.dir; path = g.L.Log.path; text = g.L.Log.text; faults = g.L.Log.faults }) c.new-in_default.result.items) [] (stop.Trouble trouble.Memory) words) (sym c.new-in_default-2.ensures.items)
-            (subst (λ (items : List _). HasStoppedRun program dir c.args.size text (entries_of {T = g.row.L.Denot} (record { dir = g.L.Log.dir; path = g.L.Log.path; text = g.L.Log.text; faults = g.L.Log.faults }) items) [] (stop.Trouble trouble.Memory) []) (sym c.new-in_default.ensures.items)
+            subst (λ (path : List Step). HasStoppedRun program dir c.args.size text (entries_of {T = g.row.L.Denot} g.L.Log c.new-in_default.result.items) path (stop.Trouble trouble.Memory) c.new-in_default-2.result.items) (sym c.root.ensures)
+            (subst (λ (words : List ℕ). HasStoppedRun program dir c.args.size text (entries_of {T = g.row.L.Denot} g.L.Log c.new-in_default.result.items) [] (stop.Trouble trouble.Memory) words) (sym c.new-in_default-2.ensures.items)
+            (subst (λ (items : List _). HasStoppedRun program dir c.args.size text (entries_of {T = g.row.L.Denot} g.L.Log items) [] (stop.Trouble trouble.Memory) []) (sym c.new-in_default.ensures.items)
             (stopped_at_once program c.requires.lawful dir c.args.size text)));
       };
     }
@@ -56,7 +56,7 @@ new-ground-requires-after_bounds g c κs within =
 pub returns-in-Ok-answer : goal.returns-in-Ok-answer
 returns-in-Ok-answer g c =
     let program = program_of c.args.kernel.now in
-    let seen : LogView g.row.L.Denot = record { dir = g.L.Log.dir; path = g.L.Log.path; text = g.L.Log.text; faults = g.L.Log.faults } in
+    let seen : Ghosts g.row.L.Denot = g.L.Log in
     let long : length c.close.result.words.items ≡ elements program.arrays = long_words c.close.result.words.ok.0 c.close.ensures.len c.in-Ok.ensures.counts.0 c.element_count.ensures c.as_slice-arrays.ensures in
     let fitted : AreFitted (layout_of program.arrays) c.close.result.words.items c.values-words.result.items = fitted_words c.as_slice-arrays.ensures c.values-words.ensures.fitted in
     let ended =
@@ -69,7 +69,7 @@ returns-in-Ok-answer g c =
 pub returns-in-Err : goal.returns-in-Err
 returns-in-Err g c =
     let program = program_of c.args.kernel.now in
-    let seen : LogView g.row.L.Denot = record { dir = g.L.Log.dir; path = g.L.Log.path; text = g.L.Log.text; faults = g.L.Log.faults } in
+    let seen : Ghosts g.row.L.Denot = g.L.Log in
     let long : length c.close.result.words.items ≡ elements program.arrays = long_words c.close.result.words.ok.0 c.close.ensures.len c.in-Ok.ensures.counts.0 c.element_count.ensures c.as_slice-arrays.ensures in
     let fitted : AreFitted (layout_of program.arrays) c.close.result.words.items c.values-words.result.items = fitted_words c.as_slice-arrays.ensures c.values-words.ensures.fitted in
     let stopped =
