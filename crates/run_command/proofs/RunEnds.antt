@@ -7,6 +7,7 @@ use Rattle.std.proofs.lemmas.Option.{none-some, same_Some}
 use Rattle.std.proofs.lemmas.Simd.{map-map}
 use Rattle.log_format.specs.declared.format.TheConstants.{FORMAT}
 use Rattle.log_format.specs.Format.{log_header}
+use Rattle.sw_base.specs.declared.environment.Log.{Ghosts}
 use Rattle.sw_base.specs.declared.closed_log.ClosedLog.{ClosedLog}
 use Rattle.sw_base.specs.declared.path.Step.{Step}
 use Rattle.sw_base.specs.declared.trouble.Trouble as fault
@@ -26,7 +27,6 @@ use Rattle.kernel_file.specs.Holding.{IsRefusal}
 use Rattle.event_buffer.specs.Logged.{HasAll}
 use Rattle.lane_runner.specs.declared.stop.Stop.{Stop}
 use Rattle.lane_runner.specs.declared.stop.Stop.TheVariants.{DivZero, Index, LogFull, Tasks, Trouble}
-use Rattle.lane_runner.specs.Children.{LogView}
 use Rattle.lane_runner.specs.Handed.{AreEntriesOf, Entry, HasCrowdedTask, HasFaultyLog, IsEntryOf, IsForMemory, Keeps, LogPlace, MayLack, entries_of, entry_of}
 use Rattle.lane_runner.specs.Handed as handed
 use Rattle.region_runner.specs.Answer.{HasRun, HasStoppedRun, IsRun, whole_log, whole_outline}
@@ -268,7 +268,7 @@ module _ (rose : Type 0) (file dir : List ℕ) (size : ℕ) (root : Text) (progr
 
 -- the same of the logs as they are answered
 module _ {L : Type 0} (dir_of : L → List ℕ) (path_of : L → List Step) (text_of : L → Option Text) (faults_of : L → ℕ) (entries : List (ClosedLog L)) where
-  abbrev seen : LogView L
+  abbrev seen : Ghosts L
   seen = record { dir = dir_of; path = path_of; text = text_of; faults = faults_of }
 
   logs_same : map log_of (entries_of seen entries) ≡ all_logged dir_of path_of text_of entries

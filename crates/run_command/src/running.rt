@@ -85,12 +85,12 @@ fn told(why: Stop) -> Result<(u32, &'static str), Trouble>
 /// Seals the logs of a kernel that stopped. After trouble they are given up.
 fn stop<F: Folder>(alloc: Global, stopped: Stopped<F::Log>, folder: &mut F) -> Outcome
     ensures ends { (before : ℕ) (file : List ℕ) (program : Program) (dir : List ℕ) (size : ℕ) (root : Text) → before ≤ (F.state folder.old).write_faults
-        → HasStoppedRun program dir size (Some root) (entries_of (record { dir = F.Log.dir; path = F.Log.path; text = F.Log.text; faults = F.Log.faults }) stopped.logs.items) stopped.path stopped.why stopped.words.items
+        → HasStoppedRun program dir size (Some root) (entries_of F.Log.Log stopped.logs.items) stopped.path stopped.why stopped.words.items
         → EndsSo (Rose before (F.state folder.new).write_faults) file dir size program (F.state folder.old).content (F.state folder.new).content result }
     ensures tells { is_some (F.state folder.new).content ≡ is_some (F.state folder.old).content }
     ensures faulty { RaiseFaults F.Log.faults stopped.logs.items (Rose (F.state folder.old).write_faults (F.state folder.new).write_faults) }
     ensures write_fault { (stopped.why ≡ stop.Trouble trouble.Failed
-        → HasFaultyLog stopped.path (entries_of (record { dir = F.Log.dir; path = F.Log.path; text = F.Log.text; faults = F.Log.faults }) stopped.logs.items))
+        → HasFaultyLog stopped.path (entries_of F.Log.Log stopped.logs.items))
         → result ≡ outcome.WriteFault → Rose (F.state folder.old).write_faults (F.state folder.new).write_faults }
     ensures not_done { due_status result ≡ DONE → ⊥ }
     ensures no_read { result ≡ outcome.ReadFault → ⊥ }

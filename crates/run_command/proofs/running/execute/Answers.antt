@@ -27,7 +27,7 @@ pub returns-in-Err-run_in_teams-clause-ends : goal.returns-in-Err-run_in_teams-c
 returns-in-Err-run_in_teams-clause-ends g c = λ file old new can is.
     let program = program_of c.args.kernel in
     let stopped = c.in-Err-run_in_teams.stopped in
-    let logs : List Entry = entries_of (record { dir = g.F.Log.Log.dir; path = g.F.Log.Log.path; text = g.F.Log.Log.text; faults = g.F.Log.Log.faults }) stopped.logs.items in
+    let logs : List Entry = entries_of g.F.Log.Log stopped.logs.items in
     let told : g.F.Log.Log.text c.in-Ok.root ≡ Some empty_text = c.in-Ok.ensures.log_text ∙ ap (option_map (λ _. empty_text)) is in
     let here = subst (λ (dir : List ℕ). HasStoppedRun program dir c.args.size (g.F.Log.Log.text c.in-Ok.root) logs stopped.path stopped.why stopped.words.items) c.in-Ok.ensures.log_dir c.in-Err-run_in_teams.ensures.answers.stopped in
     let has = subst (λ (text : Option Text). HasStoppedRun program c.args.dir.now c.args.size text logs stopped.path stopped.why stopped.words.items) told here in
