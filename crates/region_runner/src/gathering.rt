@@ -101,8 +101,7 @@ fn hand_on<L: Log>(
 // Puts a task's logs at the end. Its hand on the counters, and what it answers.
 pub(crate) fn keep<L: Log>(lane: Closed<L>, done: &mut Vec<ClosedLog<L>>) -> (ChunkHand, Verdict)
     ensures draws { result.0 ≡ lane.draws }
-    ensures taken { TookIn lane (entries_of L.Log done.old.items)
-        (entries_of L.Log done.new.items) result.1 }
+    ensures taken { TookIn lane (entries_of L.Log done.old.items) (entries_of L.Log done.new.items) result.1 }
 {
     let Closed {
         own,
@@ -129,8 +128,7 @@ fn take_in<L: Log>(
     requires split { lane.draws.view.first ≡ false }
     ensures share { share.new ≡ with_view share.old (regained share.old.view lane.draws.view) }
     ensures all { IsFirstAlone share.new.view → HasEachOnce share.new.view }
-    ensures taken { TookIn lane (entries_of L.Log done.old.items)
-        (entries_of L.Log done.new.items) result }
+    ensures taken { TookIn lane (entries_of L.Log done.old.items) (entries_of L.Log done.new.items) result }
 {
     let (draws, verdict) = keep(lane, done);
     chunks.join(share, draws);
@@ -150,8 +148,7 @@ pub(crate) fn gather<L: Log>(
     requires own { (k : ℕ) (d : ClosedValue) → k < length lanes.items → Belongs (slice_index_or lanes.items k d).draws chunks.now.table }
     requires split { (k : ℕ) (d : ClosedValue) → k < length lanes.items → (slice_index_or lanes.items k d).draws.view.first ≡ false }
     ensures gathered { (d : ClosedValue) → Gathered (length lanes.items) (λ k. slice_index_or lanes.items k d)
-        (entries_of L.Log done.old.items)
-        (entries_of L.Log done.new.items) result }
+        (entries_of L.Log done.old.items) (entries_of L.Log done.new.items) result }
     ensures share { share.new ≡ with_view share.old (regained_all (map draws_view lanes.items) share.old.view) }
     ensures all { 1 ≤ length lanes.items → IsFirstAlone share.new.view → HasEachOnce share.new.view }
 {

@@ -88,8 +88,7 @@ pub(crate) fn run_task<R: Threads + Wait + Sync + Copy + Send + 'static, L: Log,
             ensures ran { (w : WorldValue) (task : Buffered) → w.arrays ≡ ground.entry.now.arrays → task.path ≡ path → task.size ≡ ground.entry.now.size
                 → AreNewLogs L.Log task number team.now.span logs.items
                 → RanRegion w (team_of team.now) locals.now.slots.items task number hand.old hand.new
-                (entries_of L.Log done.old.items)
-                (entries_of L.Log done.new.items) result }
+                (entries_of L.Log done.old.items) (entries_of L.Log done.new.items) result }
         {
             region(
                 rt,
@@ -272,8 +271,7 @@ pub(crate) fn region<R: Threads + Wait + Sync + Copy + Send + 'static, L: Log, G
     ensures ran { (w : WorldValue) (task : Buffered) → w.arrays ≡ ground.now.arrays → task.path ≡ path.now → task.size ≡ ground.now.size
         → AreNewLogs L.Log task number team.now.span logs.items
         → RanRegion w (team_of team.now) locals.now.slots.items task number hand.old hand.new
-        (entries_of L.Log done.old.items)
-        (entries_of L.Log done.new.items) result }
+        (entries_of L.Log done.old.items) (entries_of L.Log done.new.items) result }
 {
     let (Ok(phases), Ok(room)) = (
         phases(alloc, team),

@@ -1,7 +1,7 @@
-use Rattle.std.proofs.Common.{◌≡◌, refl, ap, sym, ◌∙◌, subst, arith, ℕ, ◌+◌, ◌<◌, Bool, true, false, not, nat_lt, List, length, slice_index_or}
+use Rattle.std.proofs.Common.{rules, ◌≡◌, refl, ap, sym, ◌∙◌, subst, arith, ℕ, ◌+◌, ◌<◌, Bool, true, false, not, nat_lt, List, length, slice_index_or}
 use Rattle.std.proofs.lemmas.List.{get_or_default}
 use Rattle.std.proofs.lemmas.Bool.{ltb-true, ltb-false}
-use Rattle.std.specs.Prelude.{IsOk}
+use Rattle.std.specs.Prelude.{IsErr, IsOk}
 use Rattle.region_runner.proofs.opening.all_open.Goals as goal
 
 -- one more is so
@@ -19,4 +19,11 @@ loop-lane-preserved g c = record {
   so_far =
       one_more (λ x. IsOk x) c.args.opened.now c.loop-lane.lane-index c.lane-item.result (omega (arith, c.loop-lane-test.true)) c.lane-item.is c.loop-lane.invariant.so_far
       (c.is_err.ensures.negation ∙ ap (λ (b : Bool). not b) c.if-is_err.false);
+}
+
+pub returns-then-is_err-clause-some : goal.returns-then-is_err-clause-some
+returns-then-is_err-clause-some g c = λ _. record {
+  torn = c.loop-lane.lane-index;
+  within = omega (arith, c.loop-lane-test.true);
+  refused = λ d. subst (λ x. IsErr x) (c.lane-item.is ∙ get_or_default c.args.opened.now c.loop-lane.lane-index c.lane-item.result d (omega (arith, c.loop-lane-test.true))) (search rules);
 }
