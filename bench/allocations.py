@@ -5,8 +5,8 @@ Each such run must end with status 8, or as it ends with enough memory where wha
 due text, leaves every file that it only reads as it was, and after a `run` that ended otherwise there is no whole index, but where only
 the text could not be printed.
 
-usage: allocations.py [most], at the top of the repository, after `./sword` was built. It needs gcc. `most` is how many allocations are
-tried of each command, if not all.
+usage: allocations.py [most], at the top of the repository, after `./sword` was built (or with the program's path in SWORD). It needs gcc. `most` is how
+many allocations are tried of each command, if not all.
 """
 import os
 import shutil
@@ -15,8 +15,10 @@ import sys
 import tempfile
 
 TOP = os.path.abspath(".")
-PROGRAM = os.path.join(TOP, "crates", "sword", "out", "sword")
+PROGRAM = os.environ.get("SWORD") or os.path.join(TOP, "crates", "sword", "out", "sword")
 NO_MEMORY = 8
+# Each lane fills blocks of 16,384 bytes, which have a writer, and meets the other one.
+LONG = "array a i64 2 main { parallel 2 { loop k in 0 .. 2 { loop j in 0 .. 900 { a[tid] = j } barrier } } }\n"
 
 
 def kernel(name):
@@ -35,6 +37,10 @@ def cases():
         (["run", kernel("count"), "new", "96"], None),
         (["run", kernel("beyond"), "new", "96"], None),
         (["run", kernel("nested"), "new", "4096"], None),
+        (["live", kernel("heat"), "new", "96"], None),
+        (["live", kernel("beyond"), "new", "96"], None),
+        (["run", "long.kernel", "new", "16384"], None),
+        (["live", "long.kernel", "new", "16384"], None),
         (["gen", "4", "2"], None),
         (["gen", "4", "x"], None),
     ]
@@ -68,7 +74,7 @@ def wrong(words, read, before, due, found, due_files):
         return "the text is cut, and the status says nothing of it"
     if read and files(read) != before:
         return "a file that is only read has changed"
-    if words[0] == "run":
+    if words[0] in ("run", "live"):
         left = files("new")
         if any(not due_files.get(name, b"").startswith(bytes) for name, bytes in left.items()):
             return "a file has other bytes"
@@ -110,6 +116,8 @@ def main():
         os.chdir(place)
         for name, folder in (("shift", "shifted"), ("count", "counted"), ("count", "cut")):
             ask(["run", kernel(name), folder, "4096"])
+        with open("long.kernel", "w", encoding="utf-8") as text:
+            text.write(LONG)
         with open(os.path.join("cut", "t-0.1.swl"), "r+b") as log:
             log.truncate(162)
         well = [refuse_each(words, read, preload, most) for words, read in cases()]
