@@ -27,4 +27,4 @@ returns-clause-follows g c =
     (subst (λ (r : Record). Follows (g.F.Folder.state c.args.folder.now) (put r) (standing c.args.self.now) (standing c.put.new.self) c.put.result) (c.access-due.ensures ∙ ap (λ (k : Kind). access k e c.args.site c.args.line (to_z w64 (of_z w64 c.fit-fitted.result))) c.kind.ensures) c.put.ensures.follows)
 
 pub put-requires : goal.put-requires
-put-requires g c = (search rules, (search rules, subst IsMark (sym (ap (λ (r : Record). r.kind) c.access-due.ensures ∙ c.kind.ensures)) (change_mark c.args.change)))
+put-requires g c = (search rules, (search rules, (search rules, subst IsMark (sym (ap (λ (r : Record). r.kind) c.access-due.ensures ∙ c.kind.ensures)) (change_mark c.args.change))))
