@@ -1,0 +1,100 @@
+"""Guesses how to mend a race, by what stands around its two records in the kernel. `check` of a run of the changed kernel tells whether one was right."""
+from typing import NamedTuple
+
+
+class Place(NamedTuple):
+    """A record's expression with the blocks around it below the team at whose lanes the two records part."""
+
+    record: object
+    site: object
+    blocks: tuple
+
+
+def place(record, kernel, depth):
+    site = kernel.site(record.site)
+    forks = [at for at, it in enumerate(site.blocks) if it.word == "parallel"]
+    return Place(record, site, site.blocks[forks[depth] + 1 :])
+
+
+def guess(cause, folder, kernel):
+    one, other = cause.one, cause.other
+    words = of_mutexes(one, other, kernel) or of_updates(one, other)
+    if words or not kernel.is_known:
+        return words or f"order line {one.line} and line {other.line} by a barrier, or hold one mutex at both."
+    depth = len(cause.interval.above)
+    first, second = sorted((place(it, kernel, depth) for it in (one, other)), key=lambda it: it.site.first)
+    around = common(first.blocks, second.blocks)
+    return of_sum(first, second, kernel) or of_nowait(first, second, around) or of_loop(first, second, around, kernel) or of_lanes(first, second, around)
+
+
+def common(one, other):
+    """The blocks around both, the outermost first."""
+    depth = next((at for at, (a, b) in enumerate(zip(one, other)) if a is not b), min(len(one), len(other)))
+    return one[:depth]
+
+
+def of_mutexes(one, other, kernel):
+    if one.held and other.held:
+        names = [" and ".join(f"`{kernel.mutex(mutex)}`" for mutex, _ in it.held) for it in (one, other)]
+        return f"different mutexes guard nothing against each other, so hold one and the same at line {one.line}, which holds {names[0]}, and line {other.line}, which holds {names[1]}."
+    if one.held or other.held:
+        bare, guarded = (one, other) if other.held else (other, one)
+        return f"hold `{kernel.mutex(guarded.held[-1][0])}` at line {bare.line}, too, as line {guarded.line} does: a mutex guards only against those that hold it."
+    return None
+
+
+def of_updates(one, other):
+    if "update" not in (one.kind, other.kind):
+        return None
+    update, plain = (one, other) if one.kind == "update" else (other, one)
+    return f"the update of line {update.line} is atomic against other updates only: make line {plain.line} an `atomic` update, too, or put a barrier between the two lines."
+
+
+def of_sum(first, second, kernel):
+    it, mate = kernel.sum_at(first.record.site), kernel.sum_at(second.record.site)
+    if not it or not mate:
+        return None
+    lines = sorted({first.record.line, second.record.line})
+    change = f"line {lines[0]} `atomic {it.target} {it.sign}= {it.rest}`" if it == mate and it.rest else f"line{'s' * (len(lines) > 1)} {' and '.join(map(str, lines))} `atomic`"
+    return (
+        f"several lanes add to one element, and one of two sums gets lost: make {change}, "
+        "or put the sum into a critical section, or let each lane add up in a variable of its own first."
+    )
+
+
+def of_nowait(first, second, around):
+    """A loop without a barrier at its end, whose lanes come to the other record, there or in the next turn of a serial loop."""
+    for here, there in ((first, second), (second, first)):
+        for block in here.blocks:
+            outside = around[: around.index(block)] if block in around else around
+            comes_again = any(it.word == "loop" for it in outside)
+            if block.word == "for" and "nowait" in block.words and (comes_again or here is first and block not in around):
+                where = "the next turn of the loop around it" if block in around else f"line {there.record.line}"
+                return f"no lane waits at the end of the loop of line {block.line}, so one goes on to {where} while others are still in it: take the `nowait` of line {block.line} away."
+    return None
+
+
+def of_loop(first, second, around, kernel):
+    """One worksharing loop around both: two of its iterations touch one element."""
+    loop = next((it for it in around if it.word == "for"), None)
+    if not loop:
+        return None
+    reads = [it for it in (first, second) if it.record.kind == "read"]
+    if not reads:
+        return f"two iterations of the loop of line {loop.line} write one element: let each write elements of its own, or let one lane do it."
+    write = second if reads[0] is first else first
+    return (
+        f"in the loop of line {loop.line} a lane reads by `{kernel.expression(reads[0].record.site)}` what another lane writes by "
+        f"`{kernel.expression(write.record.site)}`: let line {write.record.line} write into another array, and copy that back in a loop after this one's barrier."
+    )
+
+
+def of_lanes(first, second, around):
+    """Statements of the team's own, with no loop that shares them: all lanes do them, or those that a test lets through."""
+    tops = [next((it.line for it in here.blocks[len(around) :]), here.record.line) for here in (first, second)]
+    if tops[0] == tops[1]:
+        return f"every lane of the team does line {tops[0]}: give each lane an element of its own, such as one at `tid`, or let one lane do it by a test of `tid`."
+    tests = [it for here in (first, second) for it in here.blocks if it.word in ("if", "else")]
+    alone = f"the test of line {tests[-1].line} lets single lanes through, and nobody waits there" if tests else "no lane waits in between"
+    where = "" if not any(it.word in ("if", "else", "critical") for it in around) else f", outside the test of line {around[-1].line}"
+    return f"{alone}: put a `barrier` before line {tops[1]}{where}, so that all that line {first.record.line} does comes before it."
