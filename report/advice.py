@@ -16,7 +16,7 @@ def place(record, kernel, depth):
     return Place(record, site, site.blocks[forks[depth] + 1 :])
 
 
-def guess(cause, folder, kernel):
+def guess(cause, kernel):
     one, other = cause.one, cause.other
     words = of_mutexes(one, other, kernel) or of_updates(one, other)
     if words or not kernel.is_known:
@@ -24,7 +24,12 @@ def guess(cause, folder, kernel):
     depth = len(cause.interval.above)
     first, second = sorted((place(it, kernel, depth) for it in (one, other)), key=lambda it: it.site.first)
     around = common(first.blocks, second.blocks)
-    return of_sum(first, second, kernel) or of_nowait(first, second, around) or of_loop(first, second, around, kernel) or of_lanes(first, second, around)
+    return (
+        of_sum(first, second, kernel)
+        or of_nowait(first, second, around)
+        or of_loop(first, second, around, kernel)
+        or of_lanes(first, second, around)
+    )
 
 
 def common(one, other):
@@ -35,11 +40,12 @@ def common(one, other):
 
 def of_mutexes(one, other, kernel):
     if one.held and other.held:
-        names = [" and ".join(f"`{kernel.mutex(mutex)}`" for mutex, _ in it.held) for it in (one, other)]
-        return f"different mutexes guard nothing against each other, so hold one and the same at line {one.line}, which holds {names[0]}, and line {other.line}, which holds {names[1]}."
+        here, there = (f"line {it.line}, which holds {' and '.join(f'`{kernel.mutex(mutex)}`' for mutex, _ in it.held)}" for it in (one, other))
+        return f"different mutexes guard nothing against each other, so hold one and the same at {here}, and {there}."
     if one.held or other.held:
         bare, guarded = (one, other) if other.held else (other, one)
-        return f"hold `{kernel.mutex(guarded.held[-1][0])}` at line {bare.line}, too, as line {guarded.line} does: a mutex guards only against those that hold it."
+        mutex = kernel.mutex(guarded.held[-1][0])
+        return f"hold `{mutex}` at line {bare.line}, too, as line {guarded.line} does: a mutex guards only against those that hold it."
     return None
 
 
@@ -47,7 +53,10 @@ def of_updates(one, other):
     if "update" not in (one.kind, other.kind):
         return None
     update, plain = (one, other) if one.kind == "update" else (other, one)
-    return f"the update of line {update.line} is atomic against other updates only: make line {plain.line} an `atomic` update, too, or put a barrier between the two lines."
+    return (
+        f"the update of line {update.line} is atomic against other updates only: make line {plain.line} an `atomic` update, too, "
+        "or put a barrier between the two lines."
+    )
 
 
 def of_sum(first, second, kernel):
@@ -55,7 +64,10 @@ def of_sum(first, second, kernel):
     if not it or not mate:
         return None
     lines = sorted({first.record.line, second.record.line})
-    change = f"line {lines[0]} `atomic {it.target} {it.sign}= {it.rest}`" if it == mate and it.rest else f"line{'s' * (len(lines) > 1)} {' and '.join(map(str, lines))} `atomic`"
+    if it == mate and it.rest:
+        change = f"line {lines[0]} `atomic {it.target} {it.sign}= {it.rest}`"
+    else:
+        change = f"line{'s' * (len(lines) > 1)} {' and '.join(map(str, lines))} `atomic`"
     return (
         f"several lanes add to one element, and one of two sums gets lost: make {change}, "
         "or put the sum into a critical section, or let each lane add up in a variable of its own first."
@@ -70,7 +82,10 @@ def of_nowait(first, second, around):
             comes_again = any(it.word == "loop" for it in outside)
             if block.word == "for" and "nowait" in block.words and (comes_again or here is first and block not in around):
                 where = "the next turn of the loop around it" if block in around else f"line {there.record.line}"
-                return f"no lane waits at the end of the loop of line {block.line}, so one goes on to {where} while others are still in it: take the `nowait` of line {block.line} away."
+                return (
+                    f"no lane waits at the end of the loop of line {block.line}, so one goes on to {where} while others are still in it: "
+                    f"take the `nowait` of line {block.line} away."
+                )
     return None
 
 
@@ -79,13 +94,13 @@ def of_loop(first, second, around, kernel):
     loop = next((it for it in around if it.word == "for"), None)
     if not loop:
         return None
-    reads = [it for it in (first, second) if it.record.kind == "read"]
-    if not reads:
+    if first.record.kind == second.record.kind:
         return f"two iterations of the loop of line {loop.line} write one element: let each write elements of its own, or let one lane do it."
-    write = second if reads[0] is first else first
+    reader, writer = (first, second) if first.record.kind == "read" else (second, first)
     return (
-        f"in the loop of line {loop.line} a lane reads by `{kernel.expression(reads[0].record.site)}` what another lane writes by "
-        f"`{kernel.expression(write.record.site)}`: let line {write.record.line} write into another array, and copy that back in a loop after this one's barrier."
+        f"in the loop of line {loop.line} a lane reads by `{kernel.expression(reader.record.site)}` what another lane writes by "
+        f"`{kernel.expression(writer.record.site)}`: let line {writer.record.line} write into another array, "
+        "and copy that back in a loop after this one's barrier."
     )
 
 
@@ -93,8 +108,12 @@ def of_lanes(first, second, around):
     """Statements of the team's own, with no loop that shares them: all lanes do them, or those that a test lets through."""
     tops = [next((it.line for it in here.blocks[len(around) :]), here.record.line) for here in (first, second)]
     if tops[0] == tops[1]:
-        return f"every lane of the team does line {tops[0]}: give each lane an element of its own, such as one at `tid`, or let one lane do it by a test of `tid`."
+        return (
+            f"every lane of the team comes to line {tops[0]}: give each lane an element of its own, such as the one at `tid`, "
+            "or let one lane do it by a test of `tid`."
+        )
     tests = [it for here in (first, second) for it in here.blocks if it.word in ("if", "else")]
     alone = f"the test of line {tests[-1].line} lets single lanes through, and nobody waits there" if tests else "no lane waits in between"
-    where = "" if not any(it.word in ("if", "else", "critical") for it in around) else f", outside the test of line {around[-1].line}"
-    return f"{alone}: put a `barrier` before line {tops[1]}{where}, so that all that line {first.record.line} does comes before it."
+    inside = next((it for it in around if it.word in ("if", "else", "critical")), None)
+    where = f"before line {tops[1]}" if not inside else f"between line {tops[0]} and line {tops[1]}, and outside the block of line {inside.line}"
+    return f"{alone}: put a `barrier` {where}, so that all that line {first.record.line} does comes before it."

@@ -25,7 +25,8 @@ a { color: var(--race) } :focus-visible { outline: 3px solid var(--ink); outline
 section { border-left: 3px solid var(--race); padding: .1rem .8rem; margin: .8rem 0 } section:target { background: var(--mark) }
 section p { margin: .3rem 0 } .soft { color: var(--soft) } .warning { border: 3px solid var(--race); padding: .6rem }
 input { font: inherit; width: 100%; max-width: 24rem; padding: .3rem }
-svg { display: block } svg text { font: 12px system-ui, sans-serif; fill: var(--ink) } svg .soft { fill: var(--soft) } svg .line { fill: var(--soft); text-anchor: middle }
+svg { display: block } svg text { font: 12px system-ui, sans-serif; fill: var(--ink) }
+svg .soft { fill: var(--soft) } svg .line { fill: var(--soft); text-anchor: middle }
 .task { stroke: var(--line); stroke-width: 2 } .box { fill: var(--box) } .bar { stroke: var(--ink); stroke-width: 2 } .fork { stroke: var(--line) }
 .record { fill: var(--race) } svg a text { fill: var(--paper); font-weight: bold; text-anchor: middle }
 """
@@ -68,8 +69,9 @@ def body(report, warning, name):
     if kernel.is_known:
         parts.append(f"<h2>The kernel</h2><pre>{source(report)}</pre>")
     parts += [
-        '<h2>The run</h2><p class="soft">Time goes from left to right. A box is a stretch of accesses of one task. A stroke across a team is a barrier, with its '
-        "line below it; a fork has its line above it. The barrier intervals of a team are numbered from 1. A red number marks a record of that race.</p>",
+        '<h2>The run</h2><p class="soft">Time goes from left to right. A box is a stretch of accesses of one task. A stroke across a team is a barrier, '
+        "with its line below it; a fork has its line above it. The barrier intervals of a team are numbered from 1. "
+        "A red number marks a record of that race.</p>",
         f'<div class="picture" tabindex="0" role="region" aria-label="the run as a picture">{Picture(report).svg()}</div>',
     ]
     return "\n".join(it for it in [*parts, *races(report)] if it)
@@ -108,7 +110,7 @@ def section(cause, folder, kernel):
     return (
         f'<section id="race{cause.number}" data-words="{html.escape(" ".join(sorted(names)))}"><h3>{cause.number}. {marked_up(words.title(cause, kernel))}</h3>'
         f"{access(cause.one, folder, kernel)}{access(cause.other, folder, kernel)}<p>{marked_up(words.order_words(cause, folder))}</p>"
-        f"<p><strong>{marked_up(words.advice_words(cause, folder, kernel))}</strong></p>{f'<p>{more}.</p>' if more else ''}</section>"
+        f"<p><strong>{marked_up(words.advice_words(cause, kernel))}</strong></p>{f'<p>{more}.</p>' if more else ''}</section>"
     )
 
 

@@ -95,7 +95,7 @@ class Plan:
 class Picture:
     def __init__(self, report):
         self.folder, self.parts, self.names, self.marks = report.folder, [], {}, {}
-        for cause in report.causes[:20]:
+        for cause in report.causes:
             for it in (cause.one, cause.other):
                 self.marks.setdefault((it.task.path, it.phase, it.item), []).append((cause, it))
         self.left = NAME * max(1, *map(len, self.folder.tasks))
@@ -142,10 +142,12 @@ class Picture:
         if not marks:
             return
         (cause, record), middle = marks[0], x + it.width / 2
-        name = html.escape(f"race {cause.number}: line {record.line}, {words.lane_words(record.task, self.folder)}")
+        others = len({it.number for it, _ in marks}) - 1
+        more = f", and {words.count(others, 'race')} more" if others else ""
+        name = html.escape(f"race {cause.number}: line {record.line}, {words.lane_words(record.task, self.folder)}{more}")
         self.parts.append(
             f'<a href="#race{cause.number}" aria-label="{name}"><title>{name}</title><circle class="record" cx="{middle:g}" cy="{y}" r="10"/>'
-            f'<text x="{middle:g}" y="{y + 4}">{cause.number}{"+" * (len({it.number for it, _ in marks}) > 1)}</text></a>'
+            f'<text x="{middle:g}" y="{y + 4}">{cause.number}{"+" * (others > 0)}</text></a>'
         )
 
     def draw_team(self, task, region, team, x, y, width):

@@ -12,7 +12,7 @@ def text(report, warning):
         more = words.more_pairs(cause, PAIRS)
         lines.append(f"race {cause.number}: {words.title(cause, kernel)}{'; ' + more if more else ''}")
         lines += [f"  {access(it, folder, kernel)}" for it in (cause.one, cause.other)]
-        lines += [f"  {words.order_words(cause, folder)}", f"  {words.advice_words(cause, folder, kernel)}"]
+        lines += [f"  {words.order_words(cause, folder)}", f"  {words.advice_words(cause, kernel)}"]
     if report.left:
         lines.append(words.left_words(report, PAIRS))
     return "\n".join(lines) + "\n"

@@ -29,16 +29,19 @@ def title(cause, kernel):
     return f"`{kernel.element(cause.byte)}`: {lines_words(cause.pairs[0])}"
 
 
+def listed(pairs, most):
+    return ", ".join(f"{low} {high}" for low, high in pairs[:most]) + (", .." if len(pairs) > most else "")
+
+
 def more_pairs(cause, most):
     """The further pairs of a cause, or nothing."""
     further = cause.pairs[1:]
-    shown = ", ".join(f"{low} {high}" for low, high in further[:most])
-    return f"{count(len(further), 'more pair')} of lines alike: {shown}{', ..' if len(further) > most else ''}" if further else ""
+    return f"{count(len(further), 'more pair')} of lines alike: {listed(further, most)}" if further else ""
 
 
 def left_words(report, most):
-    shown = ", ".join(f"{low} {high}" for low, high in report.left[:most])
-    return f"{count(len(report.left), 'more pair')} of lines, each of which `./sword explain {report.folder.place} L M` tells: {shown}{', ..' if len(report.left) > most else ''}"
+    told = f"each of which `./sword explain {report.folder.place} L M` tells"
+    return f"{count(len(report.left), 'more pair')} of lines, {told}: {listed(report.left, most)}"
 
 
 def lane_words(task, folder):
@@ -64,13 +67,14 @@ def access_words(record, folder, kernel):
 def order_words(cause, folder):
     """Why nothing orders the two."""
     interval, (one, other) = cause.interval, cause.lane_numbers
-    line = folder.tasks[interval.above].lines[interval.region]
+    above = folder.tasks[interval.above]
+    forks = f"line {above.lines[interval.region]} forks" + (f" in {lane_words(above, folder)}" if interval.above else "")
     mutex = "no mutex is held at both" if cause.one.held or cause.other.held else "no mutex is held"
     return (
-        f"No fork, join or barrier orders the two: they are in lanes {one} and {other} of the team that line {line} forks"
-        f"{', ' + lane_words(folder.tasks[interval.above], folder) + ',' if interval.above else ''}, both in its barrier interval {interval.phase + 1}; {mutex}."
+        f"No fork, join or barrier orders the two: they are in lanes {one} and {other} of the team that {forks}, "
+        f"both in its barrier interval {interval.phase + 1}; {mutex}."
     )
 
 
-def advice_words(cause, folder, kernel):
-    return f"A guess how to mend it: {advice.guess(cause, folder, kernel)}"
+def advice_words(cause, kernel):
+    return f"A guess how to mend it: {advice.guess(cause, kernel)}"
