@@ -1,6 +1,6 @@
 #!/usr/bin/env python3
-"""Tests ./page and ./sword explain-all with the program: the racing examples, their mended twins, kernels changed as the page guesses, a folder of another
-kernel, one without a kernel, a refused one, 600 pairs in 1.6 million records, and 64 lanes. Pages are opened in headless Chromium.
+"""Tests ./page and ./sword explain-all with the program: the racing examples, their mended twins, kernels changed as the page guesses, a folder of
+another kernel, one without a kernel, a refused one, 600 pairs in 1.6 million records, and 64 lanes. Pages are opened in headless Chromium.
 
     bench/test_page.py    wants the package chromium; SWORD may name the program
 """
@@ -20,8 +20,8 @@ from report.page import STYLE
 PROGRAM = os.environ.get("SWORD") or f"{ROOT}/crates/sword/out/sword"
 BROWSER = ["chromium", "--headless", "--no-sandbox", "--disable-gpu", "--window-size=1200,900", "--dump-dom"]
 
-# What the browser finds: how many links can't be focused, which words of the picture lie on one another, whether some lie outside, how wide it is, and
-# how much of that is used.
+# What the browser finds: how many links can't be focused, which words of the picture lie on one another, whether some lie outside, how wide it is,
+# and how much of that is used.
 PROBE = """<script>
 const found = {unfocused: 0, overlaps: [], links: 0};
 for (const it of document.querySelectorAll('a[href], input, .picture')) {
@@ -44,17 +44,17 @@ if (svg) {
 document.body.setAttribute('data-found', JSON.stringify(found));
 </script>"""
 
-# By hand from the kernels. Of each record: its line with the expression marked, what this does to which element, the values that are possible, the lane,
-# how often the lane has come there, and what it holds. Then words of the guess, and how the kernel is changed by it: its twin, or old and new words.
+# By hand from the kernels. Of each record: its line with the expression marked, what this does to which element, the values that are possible, the
+# lane, how often it has come there, and what it holds. Then words of the guess, and how the kernel is changed by it: its twin, or old and new words.
 #
 # shift: lane 0 has 0 to 3 and writes a[4] last; lane 1 begins with a[4]. All is 0.
-# heat: of 62 iterations lane 0 has 1 to 16, so its 16th reads u[17], where lane 1 begins; u[5] and what follows stay 0, since 1000 is divided by 4 each time.
+# heat: of 62 iterations lane 0 has 1 to 16, so its 16th reads u[17], where lane 1 begins; u[5] and what follows stay 0, since each is a quarter.
 # sum: lane 0 finds what the others added by then, of 8 to 31 at most; lane 1 leaves the first of its own, 8, and what it found of the others'.
-# wavefront: of 7 iterations lane 0 has 1 and 2, lane 1 3 and 4. g[10] is row 1, column 2: 1 + 1. Lane 1 needs it in its third turn, the first of row 2.
+# wavefront: of 7 iterations lane 0 has 1 and 2, lane 1 3 and 4. g[10] is row 1, column 2: 1 + 1. Lane 1 needs it in its third turn, first of row 2.
 # prefix sums: lane 0 has 0 and 1, lane 1 2 and 3. In the first step lane 0 skips 0, and makes 1 + 2 of a[1], which lane 1 adds to a[2].
 # nested: lane 1 of the inner team, and lane 1 of the outer one.
 # gather: whichever lanes drew a chunk and read; element e holds e once it is written, and is the e+1st that is read.
-# histogram: 0, 4, 16, 36 .. leave 0: each lane counts h[0] twice. Lane 0 finds the six of others at most, lane 1 leaves one more than the six of others.
+# histogram: 0, 4, 16, 36 .. leave 0: each lane counts h[0] twice. Lane 0 finds the six of others at most, lane 1 leaves one more than their six.
 # two mutexes: both lanes store.
 EXPECTED = {
     "shift": (
@@ -148,7 +148,7 @@ def is_right(shown, said):
 
 
 def opened(path):
-    """The page as the browser has it, and what the probe found. Holds of every page: its size, that it loads nothing, headings, links and the picture."""
+    """The page as the browser has it. Tests what holds of every page: its size, that it loads nothing, headings, links and the picture."""
     with open(path, encoding="utf-8") as file:
         text = file.read()
     is_right(len(text.encode()) <= 1_000_000, f"{path}: more than 1 MB")
@@ -333,13 +333,13 @@ def contrast(one, other):
 
 def test_contrast():
     """By the Web Content Accessibility Guidelines 2.2: 4.5 to 1 for text, 3 to 1 for lines."""
-    palettes = [dict(re.findall(r"--(\w+): (#\w{6})", it)) for it in re.findall(r":root \{(.*?)\}", STYLE)]
+    palettes = [dict(re.findall(r"--(\w+): (#\w{6})", it)) for it in re.findall(r":root \{( --.*?)\}", STYLE)]
     is_right(len(palettes) == 2, "two palettes")
     for it in palettes:
-        for text, ground in (("ink", "paper"), ("soft", "paper"), ("race", "paper"), ("ink", "mark"), ("soft", "mark"), ("race", "mark"), ("paper", "race")):
-            is_right(contrast(it[text], it[ground]) >= 4.5, f"{text} on {ground}: {contrast(it[text], it[ground]):.1f}")
-        for line, ground in (("line", "paper"), ("box", "paper"), ("ink", "paper"), ("race", "paper")):
-            is_right(contrast(it[line], it[ground]) >= 3, f"{line} on {ground}: {contrast(it[line], it[ground]):.1f}")
+        texts = [(text, ground) for text in ("ink", "soft", "race") for ground in ("paper", "mark")] + [("paper", "race")]
+        for pairs, least in ((texts, 4.5), ([(line, "paper") for line in ("line", "box", "ink", "race")], 3)):
+            for one, other in pairs:
+                is_right(contrast(it[one], it[other]) >= least, f"{one} on {other}: {contrast(it[one], it[other]):.1f}")
 
 
 def main():

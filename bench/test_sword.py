@@ -1,6 +1,6 @@
 #!/usr/bin/env python3
-"""Tests the script ./sword over the program: what it says on standard error for each status, that its table and the documents agree, where it is called
-from, what it says is missing, and that an interrupted build loses nothing.
+"""Tests the script ./sword over the program: what it says on standard error for each status, that its table and the documents agree, where it is
+called from, what it says is missing, and that an interrupted build loses nothing.
 
     bench/test_sword.py    SWORD may name the program
 """
@@ -81,11 +81,10 @@ class Place:
         shutil.copy(os.path.realpath(PROGRAM), self.program)
         os.utime(self.program)
 
-    def ask(self, *words, script=None, folder=None, path=None, **more):
-        ran = subprocess.run(
-            [script or f"{self.root}/sword", *map(str, words)],
-            stdout=more.pop("stdout", subprocess.PIPE), stderr=subprocess.PIPE, cwd=folder or self.room, env={**os.environ, "PATH": path or os.environ["PATH"]}, **more,
-        )
+    def ask(self, *words, script=None, folder=None, path=None, stdout=subprocess.PIPE):
+        """The status, the text, and what is said beside it."""
+        command, env = [script or f"{self.root}/sword", *words], {**os.environ, "PATH": path or os.environ["PATH"]}
+        ran = subprocess.run(command, stdout=stdout, stderr=subprocess.PIPE, cwd=folder or self.room, env=env)
         return ran.returncode, (ran.stdout or b"").decode(errors="replace"), ran.stderr.decode(errors="replace")
 
     def file(self, name, text):
@@ -105,11 +104,13 @@ class Place:
 
 def test_forms(place):
     usage = subprocess.run([PROGRAM], stdout=subprocess.PIPE, text=True).stdout
-    wrong = ["check logs", "check logs 100", "check logs 04", "run k logs 10", "live k logs 4194305", "replay k", "show", "upgrade a", "explain logs 7 6", "confirm logs 0 1 1 1", "certify", "gen 0 1"]
+    wrong = ["check logs", "check logs 100", "check logs 04", "run k logs 10", "live k logs 4194305", "replay k", "show", "upgrade a"]
+    wrong += ["explain logs 7 6", "confirm logs 0 1 1 1", "certify", "gen 0 1"]
     forms = {form.strip("`").split()[0]: form.strip("`") for form, _ in COMMAND_ROWS}
     for it in wrong:
         status, said, beside = place.ask(*it.split())
-        is_right((status, said) == (2, usage) and beside.startswith(f"sword: the form is {forms[it.split()[0]]}\n") and beside.count("\n") == 2, f"{it}: {status} {said} {beside}")
+        is_right((status, said) == (2, usage) and beside.count("\n") == 2, f"{it}: {status} {said} {beside}")
+        is_right(beside.startswith(f"sword: the form is {forms[it.split()[0]]}\n"), f"{it}: {beside}")
     is_right("in ascending order" in place.ask("explain", "logs", "7", "6")[2], "the order of lines")
     for words in ([], ["--help"], ["chek", "logs", "4"]):
         status, said, beside = place.ask(*words)
@@ -120,13 +121,14 @@ def test_forms(place):
 
 def text_of(example):
     """The text of an example of docs/KERNELS.md."""
+    names = [f"m{it}" for it in range(9)]
     by_words = {
         "a kernel with a comment up to byte 65,537": "main { } #".ljust(65_537, "x"),
         "`main { } /` and the byte 255": b"main { } \n\xff",
         "`main { x = /` and 33 signs `-`": "main { x = \n" + "-" * 33 + "1 }",
         "65 arrays": "\n".join(f"array a{it} i8 1" for it in range(65)) + "\nmain { }",
         "five regions": "main {\n" + "parallel 1 {\n" * 5 + "}" * 5 + "\n}",
-        "nine sections": "".join(f"mutex m{it}\n" for it in range(9)) + "main {\n" + "".join(f"critical m{it} {{\n" for it in range(9)) + "}" * 9 + "\n}",
+        "nine sections": "".join(f"mutex {it}\n" for it in names) + "main {\n" + "".join(f"critical {it} {{\n" for it in names) + "}" * 10,
     }
     return by_words.get(example) or example.strip("`").replace("/", "\n")
 
@@ -139,7 +141,8 @@ def test_kernels(place):
             status, said, beside = place.ask(*words)
             found = re.fullmatch(rf"kernel line (\d+): {why}\n", said)
             is_right(status == 3 and found and (not line or found.group(1) == line), f"{words}: {status} {said}")
-            is_right(f"sword: line {found.group(1)} of {kernel}: " in beside and f"sword: {why} stands for {where}\n" in beside, f"{why}, {example}: {beside}")
+            is_right(f"sword: line {found.group(1)} of {kernel}: " in beside, f"{why}, {example}: {beside}")
+            is_right(f"sword: {why} stands for {where}\n" in beside, f"{why}, {example}: {beside}")
             is_right(beside.count("\n") > beside.count(" stands for ") + 1, f"{why}: no advice: {beside}")
     for text, wanted, unwanted in (
         ("array a i64 8\nmain {\nlet n = 8\nparallel 2 {\nfor i in 0 .. n { a[i] = 1 }\n}\n}\n", "write the bounds with numbers", "a barrier in"),
@@ -161,7 +164,8 @@ def record(kind, size=0, site=0, line=1, address=0, value=0):
 
 
 def row(steps, records):
-    return struct.pack(">II", len(steps), 0) + b"".join(struct.pack(">IHH", *it) for it in steps) + bytes(8 * (4 - len(steps))) + struct.pack(">Q", records)
+    path = b"".join(struct.pack(">IHH", *it) for it in steps) + bytes(8 * (4 - len(steps)))
+    return struct.pack(">II", len(steps), 0) + path + struct.pack(">Q", records)
 
 
 ACCESS, ENDED = record(WRITE, 8, 0, 1, 4096, 0), record(END)
@@ -187,21 +191,46 @@ def bad_rows():
     begun = b"SWIDX002"
     listing = row((), 1) + b"".join(row(((region, lane, 64),), 1) for region in range(1024) for lane in range(64))
     return {
-        "Old": b"SWIDX001", "Header": b"SWIDX003", "TooMany": begun + listing, "Cut": begun + row((), 1)[:47], "Depth": begun + struct.pack(">I", 5) + row((), 1)[4:],
-        "Span": begun + row((), 2) + row(((0, 0, 0),), 1), "Lane": begun + row((), 2) + row(((0, 2, 2),), 1), "Order": begun + row((), 2) + row(((0, 1, 2),), 1), "Records": begun + row((), 0),
+        "Old": b"SWIDX001",
+        "Header": b"SWIDX003",
+        "TooMany": begun + listing,
+        "Cut": begun + row((), 1)[:47],
+        "Depth": begun + struct.pack(">I", 5) + row((), 1)[4:],
+        "Span": begun + row((), 2) + row(((0, 0, 0),), 1),
+        "Lane": begun + row((), 2) + row(((0, 2, 2),), 1),
+        "Order": begun + row((), 2) + row(((0, 1, 2),), 1),
+        "Records": begun + row((), 0),
     }
 
 
 def bad_records():
+    """The logs of folders and, where it doesn't follow from these, the index."""
     lock, locks = record(LOCK, address=1), [record(LOCK, address=it) for it in range(9)]
     barrier = record(BARRIER)
+    alone = {
+        "Kind": [record(10), ENDED],
+        "Size": [record(READ, 3), ENDED],
+        "LineZero": [record(READ, 8, line=0), ENDED],
+        "Address": [record(READ, 8, address=2**48), ENDED],
+        "Reserved": [record(LOCK, value=1), ENDED],
+        "EndEarly": [ENDED, ENDED],
+        "EndMissing": [ACCESS],
+        "LockTwice": [lock, lock, ENDED],
+        "LocksDeep": [*locks, ENDED],
+        "UnlockOther": [record(UNLOCK), ENDED],
+        "RootBarrier": [barrier, ENDED],
+        "LockOpen": [lock, ENDED],
+    }
     return {
-        "Header": {(): b"SWLOG003"}, "Kind": {(): [record(10), ENDED]}, "Size": {(): [record(READ, 3), ENDED]}, "LineZero": {(): [record(READ, 8, line=0), ENDED]},
-        "Address": {(): [record(READ, 8, address=2**48), ENDED]}, "Span": team([ENDED], [ENDED], root=(record(REGION, value=65), ENDED)),
-        "Reserved": {(): [record(LOCK, value=1), ENDED]}, "EndEarly": {(): [ENDED, ENDED]}, "EndMissing": {(): [ACCESS]}, "LockTwice": {(): [lock, lock, ENDED]},
-        "LocksDeep": {(): [*locks, ENDED]}, "UnlockOther": {(): [record(UNLOCK), ENDED]}, "RootBarrier": {(): [barrier, ENDED]}, "BarrierLocked": team([lock, barrier, ENDED], [ENDED]),
-        "RegionLocked": team([ENDED], [ENDED], root=(lock, record(REGION, value=2), ENDED)), "LockOpen": {(): [lock, ENDED]}, "RegionRows": team([ENDED], [ENDED], root=(ACCESS, ENDED)),
-        "BarrierCount": team([barrier, ENDED], [ENDED]),
+        **{why: ({(): log}, None) for why, log in alone.items()},
+        "Header": ({(): b"SWLOG003"}, b"SWIDX002" + row((), 1)),
+        "Cut": ({(): b"SWLOG002" + ACCESS + ENDED[:23]}, b"SWIDX002" + row((), 2)),
+        "Extra": ({(): b"SWLOG002" + ENDED + b"x"}, b"SWIDX002" + row((), 1)),
+        "Span": (team([ENDED], [ENDED], root=(record(REGION, value=65), ENDED)), None),
+        "BarrierLocked": (team([lock, barrier, ENDED], [ENDED]), None),
+        "RegionLocked": (team([ENDED], [ENDED], root=(lock, record(REGION, value=2), ENDED)), None),
+        "RegionRows": (team([ENDED], [ENDED], root=(ACCESS, ENDED)), None),
+        "BarrierCount": (team([barrier, ENDED], [ENDED]), None),
     }
 
 
@@ -218,11 +247,7 @@ def test_places(place):
         write(f"{place.room}/row{why}", {}, index)
         refused(f"{place.room}/row{why}", rf"bad index row \d+: {why}\n", f"{why} stands for this: {where['row ' + why]}\n")
         told.add("row " + why)
-    cases = {why: (logs, None) for why, logs in bad_records().items()}
-    cases["Header"] = ({(): b"SWLOG003"}, b"SWIDX002" + row((), 1))
-    cases["Cut"] = ({(): b"SWLOG002" + ACCESS + ENDED[:23]}, b"SWIDX002" + row((), 2))
-    cases["Extra"] = ({(): b"SWLOG002" + ENDED + b"x"}, b"SWIDX002" + row((), 1))
-    for why, (logs, index) in cases.items():
+    for why, (logs, index) in bad_records().items():
         write(f"{place.room}/record{why}", logs, index)
         refused(f"{place.room}/record{why}", rf"bad log \S+ record \d+: {why}\n", f"{why} stands for this: {where['record ' + why]}\n")
         told.add("record " + why)
@@ -237,7 +262,8 @@ def test_folders(place):
     logs, new = f"{place.room}/whole", f"{place.room}/new"
     place.ask("run", kernel, logs, "4096")
     os.remove(f"{logs}/t-0.1.swl")
-    for words in (["check", logs, "4"], ["show", logs], ["replay", kernel, logs], ["explain", logs, "6", "6"], ["confirm", logs, "2", "8", "3", "1"], ["explain-all", logs], ["explain-all", kernel, logs]):
+    commands = [["check", logs, "4"], ["show", logs], ["replay", kernel, logs], ["explain", logs, "6", "6"], ["confirm", logs, "2", "8", "3", "1"]]
+    for words in (*commands, ["explain-all", logs], ["explain-all", kernel, logs]):
         status, said, beside = place.ask(*words)
         is_right((status, said) == (4, "missing log t-0.1.swl\n") and "a task whose log isn't there" in beside, f"{words}: {status} {said} {beside}")
     write(f"{place.room}/old", {(): b"SWLOG001" + ENDED}, b"SWIDX001" + row((), 2))
@@ -265,7 +291,8 @@ def test_stops(place):
         found = re.fullmatch(rf"stopped {log} line (\d+): {why}\n", said)
         is_right(status == 5 and found and line in (None, int(found.group(1))), f"{why}: {status} {said}")
         shown = text.splitlines()[int(found.group(1)) - 1].strip()
-        is_right(f"sword: line {found.group(1)} of {kernel}: {shown}\n" in beside and f"{why} stands for {meanings[why]}\n" in beside and "no command reads logs without one" in beside, f"{why}: {beside}")
+        wanted = (f"sword: line {found.group(1)} of {kernel}: {shown}\n", f"{why} stands for {meanings[why]}\n", "no command reads logs without one")
+        is_right(all(it in beside for it in wanted), f"{why}: {beside}")
         status, said, beside = place.ask("check", folder, "4")
         is_right((status, said) == (4, "no index\n") and "the logs are there and no index" in beside, f"{why}: {beside}")
         shutil.rmtree(folder)
@@ -288,8 +315,8 @@ def test_faults(place):
     big = place.file("big.kernel", "array a i64 1048576\nmain {\na[0] = 1\n}\n")
     statuses = {}
     for kilobytes in range(6_000, 40_000, 2_000):
-        ran = subprocess.run(["/bin/sh", "-c", f'ulimit -v {kilobytes}; exec "$@"', "sh", f"{place.root}/sword", "certify", big], stdout=subprocess.PIPE, stderr=subprocess.PIPE, text=True)
-        statuses[ran.returncode] = ran.stderr
+        status, _, beside = place.ask("-c", f'ulimit -v {kilobytes}; exec "$@"', "sh", f"{place.root}/sword", "certify", big, script="/bin/sh")
+        statuses[status] = beside
     is_right("out of memory" in statuses.get(8, ""), f"8: {statuses}")
 
 
@@ -301,8 +328,9 @@ def test_done(place):
     is_right(place.ask("check", logs, "2") == (1, "race 6 6\nraces 1\n", ""), "check")
     is_right(place.ask("replay", kernel, logs) == (0, "same\n", ""), "replay")
     status, said, beside = place.ask("explain-all", kernel, logs)
-    is_right(status == 1 and beside == "" and said.startswith("1 pair of lines races\nrace 1: `a[4]`: line 6 in two lanes\n"), f"explain-all: {status} {said} {beside}")
-    is_right(place.ask("explain-all", logs, path=place.tools(python3="exit 127").split(":")[0] + ":" + place.bare)[0] != 0, "explain-all without python3")
+    is_right(status == 1 and beside == "" and said.startswith("1 pair of lines races\nrace 1: `a[4]`: line 6 in two lanes\n"), f"{said} {beside}")
+    status, said, beside = place.ask("explain-all", logs, path=place.bare)
+    is_right((status, said, beside) == (70, "", "sword: explain-all takes python3, and it isn't in PATH\n"), f"explain-all: {status} {beside}")
 
 
 def test_where(place):
@@ -337,11 +365,11 @@ def test_needs(place):
     make_stale(place)
     with open(place.program, "rb") as file:
         before = file.read()
-    rt = "exit 1"
+    rt, awk = "exit 1", 'case $* in */proc/meminfo*) echo 5 ;; *) exec /usr/bin/awk "$@" ;; esac'
     for tools, words in (
         ({"rt": rt, "uname": "echo Plan9"}, "take Linux on x86_64, and this is Plan9 Plan9"),
         ({"rt": rt, "df": "printf 'a b c d\\nx 1 1 1000\\n'"}, "proving takes 4,000 MB of disk, and 1 MB are free"),
-        ({"rt": rt, "awk": 'case $* in */proc/meminfo*) echo 5 ;; *) exec /usr/bin/awk "$@" ;; esac'}, "proving takes 3,000 MB of memory, and 5 MB are free"),
+        ({"rt": rt, "awk": awk}, "proving takes 3,000 MB of memory, and 5 MB are free"),
     ):
         status, said, beside = place.ask("gen", "1", "1", path=place.tools(**tools))
         is_right(status == 70 and said == "" and words in beside, f"{tools}: {status} {beside}")
@@ -358,7 +386,8 @@ def test_builds(place):
         before = file.read()
     out = f"{place.root}/crates/sword/out"
     slow = place.tools(rt="echo 'rt: sword proved'; sleep 60")
-    ran = subprocess.Popen([f"{place.root}/sword", "gen", "1", "1"], stdout=subprocess.PIPE, stderr=subprocess.PIPE, text=True, env={**os.environ, "PATH": slow}, start_new_session=True)
+    pipes = {"stdout": subprocess.PIPE, "stderr": subprocess.PIPE, "text": True, "start_new_session": True}
+    ran = subprocess.Popen([f"{place.root}/sword", "gen", "1", "1"], env={**os.environ, "PATH": slow}, **pipes)
     first = [ran.stderr.readline() for _ in range(2)]
     is_right(first[1] == "sword: sword is proved, 1 of 1\n", f"{first}")
     os.killpg(ran.pid, signal.SIGINT)
@@ -370,7 +399,8 @@ def test_builds(place):
     is_right(status == 70 and "the program wasn't built" in beside and "1 failed" in beside, beside)
     with open(place.program, "rb") as file:
         is_right(file.read() == before and os.listdir(out) == ["sword"], "a build that failed lost the program")
-    good = "mkdir -p crates/sword/out; printf '#!/bin/sh\\necho new\\n' > crates/sword/out/sword; chmod +x crates/sword/out/sword; echo '3 passed, 0 failed'"
+    made = "crates/sword/out/sword"
+    good = f"mkdir -p crates/sword/out; printf '#!/bin/sh\\necho new\\n' > {made}; chmod +x {made}; echo '3 passed, 0 failed'"
     status, said, _ = place.ask("gen", "1", "1", path=place.tools(rt=good))
     is_right((status, said) == (0, "new\n") and os.listdir(out) == ["sword"], f"{status} {said}")
     is_right(place.ask("gen", "1", "1", path=place.bare)[:2] == (0, "new\n"), "it is built once")

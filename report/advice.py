@@ -1,4 +1,5 @@
-"""Guesses how to mend a race, by what stands around its two records in the kernel. `check` of a run of the changed kernel tells whether one was right."""
+"""Guesses how to mend a race, by what stands around its two records. `check` of a run of the changed kernel tells whether one was right."""
+from itertools import takewhile
 from typing import NamedTuple
 
 
@@ -28,7 +29,8 @@ def guess(cause, kernel):
         of_sum(first, second, kernel)
         or of_nowait(first, second, around)
         or of_loop(first, second, around, kernel)
-        or of_lanes(first, second, around)
+        or of_teams(around)
+        or of_lanes(first, second, around, cause.began)
     )
 
 
@@ -36,6 +38,11 @@ def common(one, other):
     """The blocks around both, the outermost first."""
     depth = next((at for at, (a, b) in enumerate(zip(one, other)) if a is not b), min(len(one), len(other)))
     return one[:depth]
+
+
+def of_team(blocks):
+    """Those of these blocks that are the team's own, and not of a team below it."""
+    return tuple(takewhile(lambda it: it.word != "parallel", blocks))
 
 
 def of_mutexes(one, other, kernel):
@@ -53,10 +60,8 @@ def of_updates(one, other):
     if "update" not in (one.kind, other.kind):
         return None
     update, plain = (one, other) if one.kind == "update" else (other, one)
-    return (
-        f"the update of line {update.line} is atomic against other updates only: make line {plain.line} an `atomic` update, too, "
-        "or put a barrier between the two lines."
-    )
+    change = "put a barrier between" if plain.kind == "read" else f"make line {plain.line} an `atomic` update, too, or put a barrier between"
+    return f"the update of line {update.line} is atomic against other updates only: {change} the two lines."
 
 
 def of_sum(first, second, kernel):
@@ -67,7 +72,7 @@ def of_sum(first, second, kernel):
     if it == mate and it.rest:
         change = f"line {lines[0]} `atomic {it.target} {it.sign}= {it.rest}`"
     else:
-        change = f"line{'s' * (len(lines) > 1)} {' and '.join(map(str, lines))} `atomic`"
+        change = " and ".join(f"line {it}" for it in lines) + " an `atomic` update"
     return (
         f"several lanes add to one element, and one of two sums gets lost: make {change}, "
         "or put the sum into a critical section, or let each lane add up in a variable of its own first."
@@ -77,7 +82,7 @@ def of_sum(first, second, kernel):
 def of_nowait(first, second, around):
     """A loop without a barrier at its end, whose lanes come to the other record, there or in the next turn of a serial loop."""
     for here, there in ((first, second), (second, first)):
-        for block in here.blocks:
+        for block in of_team(here.blocks):
             outside = around[: around.index(block)] if block in around else around
             comes_again = any(it.word == "loop" for it in outside)
             if block.word == "for" and "nowait" in block.words and (comes_again or here is first and block not in around):
@@ -91,7 +96,7 @@ def of_nowait(first, second, around):
 
 def of_loop(first, second, around, kernel):
     """One worksharing loop around both: two of its iterations touch one element."""
-    loop = next((it for it in around if it.word == "for"), None)
+    loop = next((it for it in of_team(around) if it.word == "for"), None)
     if not loop:
         return None
     if first.record.kind == second.record.kind:
@@ -104,16 +109,33 @@ def of_loop(first, second, around, kernel):
     )
 
 
-def of_lanes(first, second, around):
+def of_teams(around):
+    """A team below around both: several lanes fork it."""
+    inner = next((it for it in around if it.word == "parallel"), None)
+    if not inner:
+        return None
+    return (
+        f"several lanes fork the team of line {inner.line}, and these teams touch one element: "
+        "give each team elements of its own, or let one lane fork it."
+    )
+
+
+def of_lanes(first, second, around, began):
     """Statements of the team's own, with no loop that shares them: all lanes do them, or those that a test lets through."""
-    tops = [next((it.line for it in here.blocks[len(around) :]), here.record.line) for here in (first, second)]
-    if tops[0] == tops[1]:
+    here, there = (it.blocks[len(around)] if len(it.blocks) > len(around) else None for it in (first, second))
+    above, below = (block.line if block else it.record.line for block, it in ((here, first), (there, second)))
+    if above == below:
         return (
-            f"every lane of the team comes to line {tops[0]}: give each lane an element of its own, such as the one at `tid`, "
+            f"every lane of the team comes to line {above}: give each lane an element of its own, such as the one at `tid`, "
             "or let one lane do it by a test of `tid`."
         )
-    tests = [it for here in (first, second) for it in here.blocks if it.word in ("if", "else")]
+    if here and there and (here.word, there.word) == ("if", "else"):
+        branches = f"lanes are in both branches of the test of line {here.line} at once"
+        return f"{branches}: end it after the first one, put a `barrier` there, and test again."
+    if above <= began < below:
+        return f"after line {second.record.line} no lane waits before the next turn, where others do line {first.record.line}: put a `barrier` there."
+    tests = [it for place in (first, second) for it in place.blocks if it.word in ("if", "else")]
     alone = f"the test of line {tests[-1].line} lets single lanes through, and nobody waits there" if tests else "no lane waits in between"
     inside = next((it for it in around if it.word in ("if", "else", "critical")), None)
-    where = f"before line {tops[1]}" if not inside else f"between line {tops[0]} and line {tops[1]}, and outside the block of line {inside.line}"
+    where = f"between line {above} and line {below}, and outside the block of line {inside.line}" if inside else f"before line {below}"
     return f"{alone}: put a `barrier` {where}, so that all that line {first.record.line} does comes before it."

@@ -23,6 +23,7 @@ class Cause:
         self.other = folder.record(words[8], int(words[10]), int(words[7]))
         self.array = kernel.array_of(self.byte)
         self.interval = folder.interval(self.one, self.other)
+        self.began = folder.began(self.one.task, self.interval)
         self.touched = {
             line: {kind for kind, site in seen if not kernel.is_known or kernel.site(site).array == self.array}
             for line, seen in folder.seen_in(self.interval).items()

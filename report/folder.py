@@ -171,6 +171,11 @@ class Folder:
                 found[head & 0xFFFFFFFF].add((ACCESSES[head >> 56], head >> 32 & 0xFFFF))
         return found
 
+    def began(self, task, interval):
+        """The line of the barrier at which this interval began for the lane above a task; 0 for the first one."""
+        lane = self.tasks[task.path[: len(interval.above) + 1]]
+        return lane.barriers[interval.phase - 1] if interval.phase else 0
+
     def interval(self, one, other):
         """The barrier interval in which two records race, where their paths part."""
         depth = next(at for at, (a, b) in enumerate(zip(one.task.path, other.task.path)) if a != b)

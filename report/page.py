@@ -8,7 +8,8 @@ from report.picture import Picture
 PAIRS, LEFT, LINKS = 24, 400, 8
 
 STYLE = """
-:root { color-scheme: light dark; --ink: #1c1e21; --paper: #fdfdfc; --soft: #595f69; --line: #868b94; --box: #7f93b5; --race: #b42318; --mark: #fde7e4 }
+:root { color-scheme: light dark }
+:root { --ink: #1c1e21; --paper: #fdfdfc; --soft: #595f69; --line: #868b94; --box: #7f93b5; --race: #b42318; --mark: #fde7e4 }
 @media (prefers-color-scheme: dark) {
   :root { --ink: #e6e6e3; --paper: #17181a; --soft: #9aa1ab; --line: #666b73; --box: #5b7199; --race: #ff8a7a; --mark: #4a211c }
 }
@@ -69,8 +70,8 @@ def body(report, warning, name):
     if kernel.is_known:
         parts.append(f"<h2>The kernel</h2><pre>{source(report)}</pre>")
     parts += [
-        '<h2>The run</h2><p class="soft">Time goes from left to right. A box is a stretch of accesses of one task. A stroke across a team is a barrier, '
-        "with its line below it; a fork has its line above it. The barrier intervals of a team are numbered from 1. "
+        '<h2>The run</h2><p class="soft">Time goes from left to right. A box is a stretch of accesses of one task. A stroke across a team is a '
+        "barrier, with its line below it; a fork has its line above it. The barrier intervals of a team are numbered from 1. "
         "A red number marks a record of that race.</p>",
         f'<div class="picture" tabindex="0" role="region" aria-label="the run as a picture">{Picture(report).svg()}</div>',
     ]
@@ -108,7 +109,8 @@ def section(cause, folder, kernel):
     names = {str(line) for pair in cause.pairs for line in pair} | {element, element.split("[")[0], cause.one.kind, cause.other.kind}
     more = words.more_pairs(cause, PAIRS)
     return (
-        f'<section id="race{cause.number}" data-words="{html.escape(" ".join(sorted(names)))}"><h3>{cause.number}. {marked_up(words.title(cause, kernel))}</h3>'
+        f'<section id="race{cause.number}" data-words="{html.escape(" ".join(sorted(names)))}">'
+        f"<h3>{cause.number}. {marked_up(words.title(cause, kernel))}</h3>"
         f"{access(cause.one, folder, kernel)}{access(cause.other, folder, kernel)}<p>{marked_up(words.order_words(cause, folder))}</p>"
         f"<p><strong>{marked_up(words.advice_words(cause, kernel))}</strong></p>{f'<p>{more}.</p>' if more else ''}</section>"
     )
@@ -121,4 +123,5 @@ def access(record, folder, kernel):
         before, marked, after = map(html.escape, kernel.marked(record.line, record.site))
         code = f"<pre><i>{record.line:5} </i>{before}<mark>{marked}</mark>{after}</pre>"
         what, where = f"`{kernel.expression(record.site)}`", f"{record.size} bytes at {record.address}; "
-    return f'{code}<p>{marked_up(f"{what} {said}")} <span class="soft">({where}record {record.number:,} of {record.task.name}, row {record.row})</span>.</p>'
+    where += f"record {record.number:,} of {record.task.name}, row {record.row}"
+    return f'{code}<p>{marked_up(f"{what} {said}")} <span class="soft">({where})</span>.</p>'

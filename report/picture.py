@@ -33,7 +33,8 @@ class Column:
 class Team:
     def __init__(self, lanes, columns, hidden):
         self.lanes, self.columns, self.hidden = lanes, columns, hidden
-        self.heights = [ROW + max([0, *(it.height for column in columns if not column.gap for it in column.cells[lane])]) for lane in range(len(lanes))]
+        cells = zip(*(it.cells for it in columns if not it.gap))
+        self.heights = [ROW + max([0, *(it.height for cell in lane for it in cell)]) for lane in cells]
 
     def width(self, unit):
         return sum(it.width(unit) for it in self.columns) + BAR * (len(self.columns) - 1) + 2 * LEAN
@@ -117,7 +118,8 @@ class Picture:
         for y, names in self.names.items():
             self.text(4, y + 4, names[0] + ", .." * (len(names) > 1), "soft")
         said = f"{words.count(len(self.folder.tasks), 'task')} from left to right, with forks, joins and barriers; each link is a record that races"
-        return f'<svg xmlns="http://www.w3.org/2000/svg" width="{width}" height="{height}" role="group" aria-label="{said}">{"".join(self.parts)}</svg>'
+        size = f'xmlns="http://www.w3.org/2000/svg" width="{width}" height="{height}"'
+        return f'<svg {size} role="group" aria-label="{said}">{"".join(self.parts)}</svg>'
 
     def text(self, x, y, said, kind=""):
         self.parts.append(f'<text x="{x}" y="{y}" class="{kind}">{html.escape(said)}</text>')
