@@ -268,7 +268,7 @@ def test_folders(place):
         is_right((status, said) == (4, "missing log t-0.1.swl\n") and "a task whose log isn't there" in beside, f"{words}: {status} {said} {beside}")
     write(f"{place.room}/old", {(): b"SWLOG001" + ENDED}, b"SWIDX001" + row((), 2))
     status, said, beside = place.ask("upgrade", f"{place.room}/old", new)
-    is_right((status, said) == (4, "bad log t.swl record 2: Cut\n") and "Cut stands for this" in beside, f"upgrade: {status} {said} {beside}")
+    is_right((status, said) == (4, "bad log t.swl record 1: EndEarly\n") and "EndEarly stands for this" in beside, f"upgrade: {said} {beside}")
     os.makedirs(f"{place.room}/empty")
     for folder, words in (("nowhere", "there is no such folder"), ("empty", "neither an index nor the root's log")):
         status, said, beside = place.ask("check", f"{place.room}/{folder}", "4")

@@ -30,7 +30,7 @@ def guess(cause, kernel):
         or of_nowait(first, second, around)
         or of_loop(first, second, around, kernel)
         or of_teams(around)
-        or of_lanes(first, second, around, cause.began)
+        or of_lanes(first, second, around, cause.began, kernel)
     )
 
 
@@ -101,11 +101,25 @@ def of_loop(first, second, around, kernel):
         return None
     if first.record.kind == second.record.kind:
         return f"two iterations of the loop of line {loop.line} write one element: let each write elements of its own, or let one lane do it."
+    does, line = of_neighbours(first, second, kernel)
+    return f"in the loop of line {loop.line} {does}: let line {line} write into another array, and copy that back in a loop after this one's barrier."
+
+
+def of_neighbours(first, second, kernel):
+    """What two lanes do, of which one reads, and the line of the other."""
     reader, writer = (first, second) if first.record.kind == "read" else (second, first)
+    read, written = (kernel.expression(it.record.site) for it in (reader, writer))
+    return f"a lane reads by `{read}` what another lane writes by `{written}`", writer.record.line
+
+
+def of_line(first, second, line, kernel):
+    """One statement of the team's own, which all lanes do."""
+    if first.record.kind != second.record.kind and kernel.expression(first.record.site) != kernel.expression(second.record.site):
+        does, line = of_neighbours(first, second, kernel)
+        return f"{does}: let each lane read into a variable of its own, by `let`, and put a `barrier` before line {line} stores."
     return (
-        f"in the loop of line {loop.line} a lane reads by `{kernel.expression(reader.record.site)}` what another lane writes by "
-        f"`{kernel.expression(writer.record.site)}`: let line {writer.record.line} write into another array, "
-        "and copy that back in a loop after this one's barrier."
+        f"every lane of the team comes to line {line}: give each lane an element of its own, such as the one at `tid`, "
+        "or let one lane do it by a test of `tid`."
     )
 
 
@@ -120,15 +134,12 @@ def of_teams(around):
     )
 
 
-def of_lanes(first, second, around, began):
+def of_lanes(first, second, around, began, kernel):
     """Statements of the team's own, with no loop that shares them: all lanes do them, or those that a test lets through."""
     here, there = (it.blocks[len(around)] if len(it.blocks) > len(around) else None for it in (first, second))
     above, below = (block.line if block else it.record.line for block, it in ((here, first), (there, second)))
     if above == below:
-        return (
-            f"every lane of the team comes to line {above}: give each lane an element of its own, such as the one at `tid`, "
-            "or let one lane do it by a test of `tid`."
-        )
+        return of_line(first, second, above, kernel)
     if here and there and (here.word, there.word) == ("if", "else"):
         branches = f"lanes are in both branches of the test of line {here.line} at once"
         return f"{branches}: end it after the first one, put a `barrier` there, and test again."

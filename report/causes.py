@@ -2,7 +2,7 @@
 from report.folder import Program
 
 # At most so many causes are asked for, and fewer in large folders, since each answer takes a pass over all records.
-CAUSES, LEAST, RECORDS = 100, 8, 16_000_000
+CAUSES, LEAST, RECORDS = 100, 8, 32_000_000
 
 
 class Refused(Exception):
@@ -19,8 +19,8 @@ class Cause:
     def __init__(self, number, pair, group, said, folder, kernel):
         words = said.split()
         self.number, self.pairs, self.group, self.byte = number, [pair], group, int(words[12])
-        self.one = folder.record(words[3], int(words[5]), int(words[2]))
-        self.other = folder.record(words[8], int(words[10]), int(words[7]))
+        found = [folder.record(words[at + 1], int(words[at + 3]), int(words[at])) for at in (2, 7)]
+        self.one, self.other = sorted(found, key=lambda it: it.line)
         self.array = kernel.array_of(self.byte)
         self.interval = folder.interval(self.one, self.other)
         self.began = folder.began(self.one.task, self.interval)

@@ -9,8 +9,8 @@ LANES, PHASES, REGIONS, BOXES = 8, 8, 4, 600
 WIDTH, NAME, UNIT, LEFT_OUT = 1100, 100, 34, 44
 # The height of a task, of the numbers above a team and of the lines below it; how far a fork leans, and how wide a barrier is.
 ROW, ABOVE, BELOW, LEAN, BAR = 26, 26, 16, 14, 6
-# From this width on a barrier interval is called so, and not by its number alone.
-WIDE = 64
+# From this width on a barrier interval is called so, and not by its number alone; and how wide a letter is.
+WIDE, LETTER = 64, 6.5
 
 
 class Item:
@@ -116,7 +116,8 @@ class Picture:
         self.names[root] = ["the main task"]
         self.draw_items(self.folder.tasks[()], 0, self.plan.items, self.left, root)
         for y, names in self.names.items():
-            self.text(4, y + 4, names[0] + ", .." * (len(names) > 1), "soft")
+            both = ", ".join(names)
+            self.text(4, y + 4, both if len(both) * LETTER < self.left else f"{names[0]}, ..", "soft")
         said = f"{words.count(len(self.folder.tasks), 'task')} from left to right, with forks, joins and barriers; each link is a record that races"
         size = f'xmlns="http://www.w3.org/2000/svg" width="{width}" height="{height}"'
         return f'<svg {size} role="group" aria-label="{said}">{"".join(self.parts)}</svg>'
@@ -132,7 +133,7 @@ class Picture:
             if it.kind == "team":
                 self.draw_team(task, *it.what, x, y, it.width)
             elif it.kind == "left":
-                self.text(x + 4, y + 4, f"+{it.what:,}", "soft")
+                self.text(x + 4, y - 5, f"+{it.what:,}", "soft")
             else:
                 self.draw_stretch((task.path, phase, it.at), it, x, y)
             x += it.width
