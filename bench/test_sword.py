@@ -115,8 +115,9 @@ def test_forms(place):
     for words in ([], ["--help"], ["chek", "logs", "4"]):
         status, said, beside = place.ask(*words)
         is_right((status, said) == (2, usage) and beside.splitlines() == [f"sword: {it[3]}" for it in table() if it[0] == "2"], f"{words}: {beside}")
-    status, said, beside = place.ask("explain-all")
-    is_right(status == 2 and said == "" and f"the form is {forms['explain-all']}" in beside, f"explain-all: {status} {beside}")
+    for words in (["explain-all"], ["explain-all", "a", "b", "c"]):
+        status, said, beside = place.ask(*words)
+        is_right(status == 2 and said == "" and beside.startswith(f"sword: the form is {forms['explain-all']}\n"), f"{words}: {status} {beside}")
 
 
 def text_of(example):
@@ -137,7 +138,8 @@ def test_kernels(place):
     for why, where, example, line in KERNEL_ROWS:
         why = why.strip("`")
         kernel = place.file("some.kernel", text_of(example))
-        for words in (("certify", kernel), ("run", kernel, f"{place.room}/none", "4096"), ("replay", kernel, f"{place.room}/none")):
+        none = f"{place.room}/none"
+        for words in (("certify", kernel), ("run", kernel, none, "4096"), ("replay", kernel, none), ("explain-all", kernel, none)):
             status, said, beside = place.ask(*words)
             found = re.fullmatch(rf"kernel line (\d+): {why}\n", said)
             is_right(status == 3 and found and (not line or found.group(1) == line), f"{words}: {status} {said}")

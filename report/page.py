@@ -55,7 +55,7 @@ def whole(title, body):
 
 
 def refused(what, said):
-    return f"<h1>{html.escape(what)} is refused</h1><pre>{html.escape(said)}</pre>"
+    return f"<h1>{html.escape(what)}</h1><pre>{html.escape(said)}</pre>"
 
 
 def body(report, warning, name):
@@ -84,10 +84,12 @@ def source(report):
     for cause in report.causes:
         for line in {line for pair in cause.pairs for line in pair}:
             by_line.setdefault(line, []).append(cause.number)
+    left = {line for pair in report.left for line in pair}
     lines, kernel = [], report.kernel
     for number, line in enumerate(kernel.lines[: len(kernel.lines) - (not kernel.lines[-1])], 1):
         shown = f"<i>{number:5} </i>{html.escape(line)}"
         links = " ".join(f'<a href="#race{it}">race {it}</a>' for it in by_line.get(number, [])[:LINKS])
+        links = links or (number in left) * '<a href="#left">races, too</a>'
         lines.append(f'<b id="line{number}">{shown}  {links}</b>' if links else shown)
     return "\n".join(lines)
 
@@ -100,7 +102,7 @@ def races(report):
         parts.append('<p><label>Only races with these words, such as a line or an array: <input type="search"></label></p>')
     parts += [section(it, report.folder, report.kernel) for it in report.causes]
     if report.left:
-        parts.append(f'<p class="soft">{marked_up(words.left_words(report, LEFT))}</p>')
+        parts.append(f'<p class="soft" id="left">{marked_up(words.left_words(report, LEFT))}</p>')
     return parts
 
 
