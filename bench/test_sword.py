@@ -150,6 +150,7 @@ def test_kernels(place):
         ("array a i64 8\nmain {\nlet n = 8\nparallel 2 {\nfor i in 0 .. n { a[i] = 1 }\n}\n}\n", "write the bounds with numbers", "a barrier in"),
         ("array a i64 8\nmain {\na[0] = 1;\n}\n", "leave the `;` away", "`and`"),
         ("array a i64 8\nmain {\na[0] += 1\n}\n", "write `atomic a[i] += 1`", "close every"),
+        ("main {\nfor", "a text that ends before its kernel does", "a reserved name"),
         ("array a f64 8\nmain {\n}\n", "there is no floating point", "another name"),
         ("array a i64 0\nmain {\n}\n", "a number of elements that isn't", "a number of lanes"),
         ("main {\nparallel 65 {\n}\n}\n", "a number of lanes that isn't", "a number of elements"),

@@ -1,5 +1,5 @@
 """The pairs of lines that race, put together by their causes, and the two records that `explain` names of each cause."""
-from report.folder import Program
+from collections import defaultdict
 
 # At most so many causes are asked for, and fewer in large folders, since each answer takes a pass over all records.
 CAUSES, LEAST, RECORDS = 100, 8, 32_000_000
@@ -16,9 +16,9 @@ class Refused(Exception):
 class Cause:
     """Pairs of lines of one array and one barrier interval, each tied to another by a line, or by a line with the same code."""
 
-    def __init__(self, number, pair, group, said, folder, kernel):
+    def __init__(self, number, pair, said, folder, kernel):
         words = said.split()
-        self.number, self.pairs, self.group, self.byte = number, [pair], group, int(words[12])
+        self.number, self.pairs, self.byte = number, [pair], int(words[12])
         found = [folder.record(words[at + 1], int(words[at + 3]), int(words[at])) for at in (2, 7)]
         self.one, self.other = sorted(found, key=lambda it: it.line)
         self.array = kernel.array_of(self.byte)
@@ -29,10 +29,10 @@ class Cause:
             for line, seen in folder.seen_in(self.interval).items()
         }
 
-    def takes(self, pair, group):
+    def takes(self, pair):
         """Whether this pair is of this cause: its lines touch the array in the interval, not both by reads, nor both by updates alone."""
-        kinds = [self.touched.get(line, set()) for line in pair]
-        return group == self.group and all(kinds) and any(len({a, b}) > 1 or a == "write" for a in kinds[0] for b in kinds[1])
+        one, other = (self.touched.get(line, ()) for line in pair)
+        return any(len({a, b}) > 1 or a == "write" for a in one for b in other)
 
     @property
     def lane_numbers(self):
@@ -45,17 +45,18 @@ class Report:
 
     def __init__(self, folder, kernel, pairs, ask):
         self.folder, self.kernel, self.pairs, self.causes, self.left = folder, kernel, pairs, [], []
-        groups, most = groups_of(pairs, kernel), max(LEAST, min(CAUSES, RECORDS // folder.records))
+        groups, found, most = groups_of(pairs, kernel), defaultdict(list), max(LEAST, min(CAUSES, RECORDS // folder.records))
         for pair in pairs:
-            group = groups[pair[0]]
-            cause = next((it for it in self.causes if it.takes(pair, group)), None)
+            group = found[groups[pair[0]]]
+            cause = next((it for it in group if it.takes(pair)), None)
             if cause:
                 cause.pairs.append(pair)
             elif len(self.causes) == most:
                 self.left.append(pair)
             else:
                 said = told(ask, "explain", folder.place, *pair)
-                self.causes.append(Cause(len(self.causes) + 1, pair, group, said, folder, kernel))
+                self.causes.append(Cause(len(self.causes) + 1, pair, said, folder, kernel))
+                group.append(self.causes[-1])
 
 
 def groups_of(pairs, kernel):

@@ -77,7 +77,7 @@ class Kernel(Unknown):
     def __init__(self, text):
         self.text = text
         self.plain = re.sub(r"#.*", lambda it: " " * len(it.group()), text)
-        self.lines = text.split("\n")
+        self.lines, self.codes = text.split("\n"), [it.strip() for it in self.plain.split("\n")]
         self.tokens = list(read_tokens(self.plain))
         self.arrays, self.mutexes = read_head(self.tokens)
         self.sites = read_sites(self.tokens)
@@ -87,7 +87,7 @@ class Kernel(Unknown):
 
     def code(self, line):
         """A line without its comment and the spaces around."""
-        return self.plain.split("\n")[line - 1].strip() if 0 < line <= len(self.lines) else ""
+        return self.codes[line - 1] if 0 < line <= len(self.codes) else ""
 
     def array_at(self, address):
         return next((it for it in self.arrays if it.first <= address < it.first + it.width * it.elements), None)
