@@ -17,6 +17,7 @@ import time
 ROOT = os.path.dirname(os.path.dirname(os.path.abspath(__file__)))
 sys.dont_write_bytecode = True
 sys.path.insert(0, ROOT)
+from generate import BARRIER, END, REGION, WRITE, record, row
 from report.kernel import Kernel
 from report.page import STYLE
 
@@ -302,6 +303,23 @@ def test_generated(room):
     is_right("line 30: reads 8 bytes at `address 4120`" in text and "line 40: writes 4 bytes at `address 4120`" in text, text)
 
 
+def test_far_lines(room):
+    """Lines of ten digits, more regions and barriers than are drawn, and a race in the last of them."""
+    folder, far = f"{room}/far", 4_000_000_000
+    os.makedirs(folder)
+    lane = [record(BARRIER, 0, 0, far + it, 0, 0) for it in range(40)] + [record(WRITE, 1, 0, far, 4096, 0), record(END, 0, 0, far, 0, 0)]
+    root = [record(REGION, 0, 0, far + it, 0, 2) for it in range(9)] + [record(END, 0, 0, far, 0, 0)]
+    logs = {(): root, **{((region, at, 2),): lane for region in range(9) for at in range(2)}}
+    for steps, records in logs.items():
+        with open(f"{folder}/t{''.join(f'-{region}.{at}' for region, at, _ in steps)}.swl", "wb") as file:
+            file.write(b"SWLOG002" + b"".join(records))
+    with open(f"{folder}/index.swi", "wb") as file:
+        file.write(b"SWIDX002" + b"".join(row(steps, len(records)) for steps, records in logs.items()))
+    status, text, shown = told(room, folder)
+    is_right(status == 1 and "both in its barrier interval 41;" in text and len(text.splitlines()) == 6, text)
+    is_right("+4" in shown and "4000000039" in shown and "+32" in shown, "what isn't drawn")
+
+
 def test_refused(room):
     """A folder without an index, and a kernel that is none."""
     folder = folder_of(example("beyond"), room)
@@ -378,7 +396,7 @@ def main():
             test_racing(name, room)
             test_mended(name, room)
             print(f"{name}: the page, and the mended kernel's", flush=True)
-        for test in (test_sites, test_other_kernel, test_no_kernel, test_generated, test_refused, test_many_lanes):
+        for test in (test_sites, test_other_kernel, test_no_kernel, test_generated, test_far_lines, test_refused, test_many_lanes):
             test(room)
             print(f"{test.__name__[5:]}: as it should be", flush=True)
         test_many_pairs(room, "one_cause", ["s[0] = tid"] * 35, 1)

@@ -13,6 +13,11 @@ ROW, ABOVE, BELOW, LEAN, BAR = 26, 26, 16, 14, 6
 WIDE, LETTER = 64, 6.5
 
 
+def across(said):
+    """How wide these words are, with some room."""
+    return int(LETTER * len(said)) + 8
+
+
 class Item:
     """A stretch, a team, or what is left out there: how wide and how high it is below its task's line."""
 
@@ -20,14 +25,20 @@ class Item:
         self.kind, self.width, self.height, self.what, self.at = kind, width, height, what, at
 
 
-class Column:
-    """A barrier interval of a team with the items of each lane, or a gap of so many intervals."""
+def left_out(number):
+    return [Item("left", max(LEFT_OUT, across(f"+{number:,}")), 0, number)] if number else []
 
-    def __init__(self, number, gap, cells):
+
+class Column:
+    """A barrier interval of a team with the items of each lane, or a gap of so many intervals; and the line of the barrier that ends it."""
+
+    def __init__(self, number, gap, cells, lines):
         self.number, self.gap, self.cells = number, gap, cells
+        self.line = lines[number + max(gap, 1) - 1] if number + max(gap, 1) <= len(lines) else ""
 
     def width(self, unit):
-        return LEFT_OUT if self.gap else max([2 * unit // 3, *(sum(it.width for it in cell) for cell in self.cells)])
+        least = max(across(str(self.line)), across(f"+{self.gap:,}") if self.gap else 0)
+        return max([least, LEFT_OUT if self.gap else 2 * unit // 3, *(sum(it.width for it in cell) for cell in self.cells)])
 
 
 class Team:
@@ -64,12 +75,13 @@ class Plan:
         total, depth, paths = len(lanes[0].phases), len(lanes[0].path), {it.path for it in lanes}
         kept = {phase for path, phase, _ in self.marks if path in paths}
         kept |= {self.tasks[path[:depth]].forked[path[depth][0]] for path in self.kept if len(path) > depth and path[:depth] in paths}
-        columns, before = [], 0
+        columns, before, lines = [], 0, lanes[0].barriers
         for phase in sorted(kept | set(range(min(total, PHASES))))[: 2 * PHASES]:
-            columns += [Column(before, phase - before, [])] * (phase > before)
-            columns.append(Column(phase, 0, [self.phase(it, phase) for it in lanes]))
+            if phase > before:
+                columns.append(Column(before, phase - before, [], lines))
+            columns.append(Column(phase, 0, [self.phase(it, phase) for it in lanes], lines))
             before = phase + 1
-        return columns + [Column(before, total - before, [])] * (total > before)
+        return columns + ([Column(before, total - before, [], lines)] if total > before else [])
 
     def phase(self, task, phase):
         """The items of one barrier interval of a task; those left out are counted."""
@@ -79,18 +91,18 @@ class Plan:
             is_kept = (task.path, phase, at) in self.marks or is_team and any((*task.path, (it, lane)) in self.kept for lane in range(task.spans[it]))
             room -= is_team and not is_kept
             if is_kept or room >= 0 and self.boxes < BOXES:
-                items += [Item("left", LEFT_OUT, 0, left)] * (left > 0) + [self.item(task, it, at)]
+                items += left_out(left) + [self.item(task, it, at)]
                 self.boxes, left = self.boxes + 1, 0
             else:
                 left += 1
-        return items + [Item("left", LEFT_OUT, 0, left)] * (left > 0)
+        return items + left_out(left)
 
     def item(self, task, it, at):
         if isinstance(it, Stretch):
             return Item("stretch", self.unit, 0, it, at)
         lanes = self.lanes(task, it)
         team = Team(lanes, self.columns(lanes), task.spans[it] - len(lanes))
-        return Item("team", team.width(self.unit), team.height(), (it, team), at)
+        return Item("team", max(team.width(self.unit), across(f"line {task.lines[it]}")), team.height(), (it, team), at)
 
 
 class Picture:
@@ -117,7 +129,7 @@ class Picture:
         self.draw_items(self.folder.tasks[()], 0, self.plan.items, self.left, root)
         for y, names in self.names.items():
             both = ", ".join(names)
-            self.text(4, y + 4, both if len(both) * LETTER < self.left else f"{names[0]}, ..", "soft")
+            self.text(4, y + 4, both if across(both) < self.left else f"{names[0]}, ..", "soft")
         said = f"{words.count(len(self.folder.tasks), 'task')} from left to right, with forks, joins and barriers; each link is a record that races"
         size = f'xmlns="http://www.w3.org/2000/svg" width="{width}" height="{height}"'
         return f'<svg {size} role="group" aria-label="{said}">{"".join(self.parts)}</svg>'
@@ -181,9 +193,8 @@ class Picture:
     def draw_barrier(self, team, before, x, top, below):
         """The barrier that ends a barrier interval, or the last one of a gap."""
         self.stroke("bar", x, top - 11, x, below - ROW + 11)
-        line = team.lanes[0].barriers[before.number + max(before.gap - 1, 0)]
-        is_wide = before.width(self.plan.unit) > WIDE
-        self.parts.append(f'<text class="line" x="{x}" y="{below - ROW + 23}">{"line " * is_wide}{line}</text>')
+        is_wide = before.width(self.plan.unit) > max(WIDE, across(f"line {before.line}"))
+        self.parts.append(f'<text class="line" x="{x}" y="{below - ROW + 23}">{"line " * is_wide}{before.line}</text>')
 
     def draw_column(self, team, column, x, top, width):
         said = f"+{column.gap:,}" if column.gap else f"interval {column.number + 1}" if width > WIDE else str(column.number + 1)
