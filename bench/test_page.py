@@ -252,6 +252,43 @@ def test_mended(name, room):
     is_right("<h1>No races</h1>" in shown and "<section" not in shown and '<b id="line' not in shown, f"{kernel}: its page")
 
 
+# Kernels of three arrays and a mutex: what a region of so many lanes does, a line each, words of the guess, and the lines that it changes.
+GUESSES = [
+    (4, ["atomic a[0] += tid", "b[tid] = a[0]"], "put a barrier between the two lines", {"b[tid] = a[0]": "barrier b[tid] = a[0]"}),
+    (4, ["atomic a[0] += tid", "a[0] = 1"], "make line 7 an `atomic` update, too", {"a[0] = 1": "atomic a[0] += 1"}),
+    (2, ["if tid == 0 { critical m { a[0] = 1 } }", "else { a[0] = 2 }"], "hold `m` at line 7, too", {"a[0] = 2": "critical m { a[0] = 2 }"}),
+    (2, ["for i in 0 .. 8 nowait { a[i] = i }", "for i in 0 .. 8 { b[i] = a[7-i] }"], "take the `nowait` of line 6 away", {" nowait": ""}),
+    (2, ["loop t in 0 .. 2 { for i in 0 .. 8 nowait { a[i] = b[7-i] }", "for i in 0 .. 8 { b[i] = a[i] } }"], "`nowait` of line 6", {" nowait": ""}),
+    (4, ["if tid == 0 { a[0] = 1 }", "b[tid] = a[0]"], "put a `barrier` before line 7", {"b[tid] = a[0]": "barrier b[tid] = a[0]"}),
+    (4, ["a[tid] = 1", "b[tid] = a[0]"], "no lane waits in between: put a `barrier` before line 7", {"b[tid] = a[0]": "barrier b[tid] = a[0]"}),
+    (4, ["a[0] = tid"], "every lane of the team comes to line 6", {"a[0] = tid": "if tid == 0 { a[0] = tid }"}),
+    (4, ["a[tid] = a[tid+1]"], "put a `barrier` before line 6 stores", {"a[tid] = a[tid+1]": "let x = a[tid+1] barrier a[tid] = x"}),
+    (4, ["loop t in 0 .. 2 {", "let x = a[tid+1]", "barrier", "a[tid] = x", "}"], "after line 9 no lane waits", {"= x": "= x barrier"}),
+    (2, ["if tid == 0 { a[0] = 1 }", "else { b[0] = a[0] }"], "both branches of the test of line 6", {"else": "barrier if tid == 1"}),
+    (2, ["parallel 2 { a[tid] = 1 }"], "let one lane fork it", {"parallel 2 { a": "if tid == 0 { parallel 2 { a", "= 1 }": "= 1 } }"}),
+    (2, ["for i in 0 .. 8 { a[i] = i", "b[i] = a[i+1] }"], "let line 6 write into another array", {"a[i] = i": "c[i] = i"}),
+    (2, ["for i in 0 .. 8 { a[i % 2] = i }"], "two iterations of the loop of line 6 write one element", {"i % 2": "i"}),
+    (4, ["for i in 0 .. 8 { a[0] = i + a[0] }"], "make line 6 an `atomic` update", {"a[0] = i + a[0]": "atomic a[0] += i"}),
+    (4, ["for i in 0 .. 8 { a[0] = a[0] - i }"], "make line 6 `atomic a[0] -= i`", {"a[0] = a[0] - i": "atomic a[0] -= i"}),
+]
+
+
+def test_guesses(room):
+    """Of small kernels: the guess, and that the kernel, changed so, races no more."""
+    head = "array a i64 9\narray b i64 9\narray c i64 9\nmutex m\n"
+    for lanes, lines, guess, changes in GUESSES:
+        kernel = f"{room}/guess.kernel"
+        for is_changed in (False, True):
+            text = head + f"main {{ parallel {lanes} {{\n" + "\n".join(lines) + "\n} }\n"
+            for old, new in changes.items() if is_changed else ():
+                is_right(text.count(old) == 1, f"{lines}: {old}")
+                text = text.replace(old, new)
+            with open(kernel, "w", encoding="utf-8") as file:
+                file.write(text)
+            status, said = ask(f"{ROOT}/page", "--text", kernel, folder_of(kernel, room))
+            is_right(said == "No races\n" if is_changed else guess in said.splitlines()[-1], f"{text}: {said}")
+
+
 ODD = """array a i8 3 array b i64 2 # b[0]
 mutex a_b
 main { let x = 1a[0]=2 b
@@ -396,7 +433,7 @@ def main():
             test_racing(name, room)
             test_mended(name, room)
             print(f"{name}: the page, and the mended kernel's", flush=True)
-        for test in (test_sites, test_other_kernel, test_no_kernel, test_generated, test_far_lines, test_refused, test_many_lanes):
+        for test in (test_sites, test_guesses, test_other_kernel, test_no_kernel, test_generated, test_far_lines, test_refused, test_many_lanes):
             test(room)
             print(f"{test.__name__[5:]}: as it should be", flush=True)
         test_many_pairs(room, "one_cause", ["s[0] = tid"] * 35, 1)

@@ -21,7 +21,7 @@ def guess(cause, kernel):
     one, other = cause.one, cause.other
     words = of_mutexes(one, other, kernel) or of_updates(one, other)
     if words or not kernel.is_known:
-        return words or f"order line {one.line} and line {other.line} by a barrier, or hold one mutex at both."
+        return words or "order the two by a barrier, or hold one mutex at both."
     depth = len(cause.interval.above)
     first, second = sorted((place(it, kernel, depth) for it in (one, other)), key=lambda it: it.site.first)
     around = common(first.blocks, second.blocks)
