@@ -3,13 +3,12 @@
 
 usage: bug_tests.py CRATE ..
 
-Takes the bodies of bugs/CRATE.json that have a `test`, CRATE::FUNCTION. Each is tried in a copy of the repository, in which the other tests of that crate
+Takes the bodies of bugs/CRATE that name a test, CRATE::FUNCTION. Each is tried in a copy of the repository, in which the other tests of that crate
 are left out. Nothing is proved, so nothing has to be built before. Prints a line for each: refused, passed, no answer, or what else came out. Half a
 minute to two for each, on one processor. Not part of the gate.
 """
 import concurrent.futures
 import filecmp
-import json
 import os
 import re
 import shutil
@@ -17,8 +16,9 @@ import subprocess
 import sys
 import tempfile
 
-HERE = os.path.dirname(os.path.abspath(__file__))
-REPOSITORY = os.path.dirname(HERE)
+import bodies
+
+REPOSITORY = bodies.TOP
 SECONDS = 240
 
 
@@ -72,7 +72,7 @@ def leave_alone(crate, name):
 
 
 def outcome(crate, bug):
-    tests, name = bug["test"].split("::")
+    tests, name = bug.test.split("::")
     with tempfile.TemporaryDirectory() as copy:
         for part in ("crates", "crates.txt", "HANDLES"):
             source = f"{REPOSITORY}/{part}"
@@ -80,9 +80,9 @@ def outcome(crate, bug):
                 shutil.copytree(source, f"{copy}/{part}", ignore=shutil.ignore_patterns("out"))
             elif os.path.exists(source):
                 shutil.copy(source, copy)
-        path = f"{copy}/crates/{crate}/{bug['file']}"
-        change(path, lambda text: text.replace(bug["old"], bug["new"]) if text.count(bug["old"]) == 1 else text)
-        if filecmp.cmp(path, f"{REPOSITORY}/crates/{crate}/{bug['file']}", shallow=False):
+        path = f"{copy}/crates/{crate}/{bug.file}"
+        change(path, lambda text: text.replace(bug.old, bug.new) if text.count(bug.old) == 1 else text)
+        if filecmp.cmp(path, f"{REPOSITORY}/crates/{crate}/{bug.file}", shallow=False):
             return "its text doesn't stand once in the file"
         if not leave_alone(f"{copy}/crates/{tests}", name):
             return "there is no such test"
@@ -99,10 +99,9 @@ def outcome(crate, bug):
 
 
 def try_all(pool, crate):
-    with open(f"{HERE}/bugs/{crate}.json", encoding="utf-8") as file:
-        bugs = [bug for bug in json.load(file) if bug.get("test")]
+    bugs = [bug for bug in bodies.bodies(crate) if bug.test]
     for bug, came in zip(bugs, pool.map(lambda bug: outcome(crate, bug), bugs)):
-        print(f"{crate} {bug['id']}: {came}  {bug['test']}", flush=True)
+        print(f"{crate} {bug.name}: {came}  {bug.test}", flush=True)
 
 
 if __name__ == "__main__":

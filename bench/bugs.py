@@ -3,22 +3,21 @@
 
 usage: bugs.py CRATE ..
 
-bugs/CRATE.json has the bodies: the function as the checker names it (`fn`), the file, the text that is replaced and what stands in its place, whether the
-contract refuses it by a reading of it (`expect`), why, and a test that refuses it if there is one. Bodies of different functions are tried in one check, in a
-copy of the crate; a function that calls one which isn't proved is tried again without it. Prints a line for each body, and those that came out
-otherwise than expected. The crates below have to be built: `rt ci` or `rt check` does so. Not part of the gate.
+Takes the bodies of bugs/CRATE (`bodies.py` says how they are written). Those of different functions are tried in one check, in a copy of the crate; a function
+that calls one which isn't proved is tried again without it. Prints a line for each body, and those that came out otherwise than its diff says. The crates below
+have to be built: `rt ci` or `rt check` does so. Not part of the gate. It calls the toolchain's own command as a module, so another toolchain may want another way.
 """
 import importlib.machinery
 import importlib.util
-import json
 import os
 import re
 import shutil
 import sys
 import tempfile
 
-HERE = os.path.dirname(os.path.abspath(__file__))
-REPOSITORY = os.path.dirname(HERE)
+import bodies
+
+REPOSITORY = bodies.TOP
 ROUNDS = 16
 
 
@@ -36,10 +35,9 @@ def batch_of(crate, left, most):
     """As many bodies as there are functions, but no more than these, and the texts with them."""
     texts, taken = {}, []
     for bug in left:
-        path = f"{crate.folder}/{bug['file']}"
-        text = texts.get(bug["file"]) or open(path, encoding="utf-8").read()
-        if len(taken) < most and bug["fn"] not in {other["fn"] for other in taken} and text.count(bug["old"]) == 1:
-            texts[bug["file"]] = text.replace(bug["old"], bug["new"])
+        text = texts.get(bug.file) or open(bodies.source_of(bug), encoding="utf-8").read()
+        if len(taken) < most and bug.function not in {other.function for other in taken} and text.count(bug.old) == 1:
+            texts[bug.file] = text.replace(bug.old, bug.new)
             taken.append(bug)
     return texts, taken
 
@@ -69,36 +67,36 @@ def judge(found):
 
 def try_all(rt, name):
     crate = rt.Crate(f"{REPOSITORY}/crates/{name}", REPOSITORY, {})
-    bugs = json.load(open(f"{HERE}/bugs/{name}.json", encoding="utf-8"))
+    bugs = bodies.bodies(name)
     results, left, most = {}, list(bugs), len(bugs)
     with tempfile.TemporaryDirectory() as kept:
         for _ in range(ROUNDS):
             texts, taken = batch_of(crate, left, most)
             if not taken:
                 break
-            flags = ["--jobs", "2", *[word for bug in taken for word in ("--only", bug["fn"])]]
+            flags = ["--jobs", "2", *[word for bug in taken for word in ("--only", bug.function)]]
             lines = rt.checked(crate, texts, flags, kept).stdout.rstrip("\n").split("\n")
             unknown = re.search(r"has no function `(\S+)`", lines[0])
             if unknown:
-                results.update({bug["id"]: ("not named", unknown[1]) for bug in taken if bug["fn"] == unknown[1]})
-                left = [bug for bug in left if bug["fn"] != unknown[1]]
+                results.update({bug.name: ("not named", unknown[1]) for bug in taken if bug.function == unknown[1]})
+                left = [bug for bug in left if bug.function != unknown[1]]
                 continue
             if not lines[-1].startswith(("logic=", "only=")):
                 if len(taken) > 1:
                     most = len(taken) // 2
                 else:
-                    results[taken[0]["id"]] = ("not read", lines[0][:160])
+                    results[taken[0].name] = ("not read", lines[0][:160])
                     left, most = [bug for bug in left if bug not in taken], len(bugs)
                 continue
             found = told(lines)
             for bug in taken:
-                results[bug["id"]] = judge(found[bug["fn"]]) if bug["fn"] in found else ("not named", bug["fn"])
-            again = [bug for bug in taken if results[bug["id"]] is None]
+                results[bug.name] = judge(found[bug.function]) if bug.function in found else ("not named", bug.function)
+            again = [bug for bug in taken if results[bug.name] is None]
             left = [bug for bug in left if bug not in taken] + (again if len(again) < len(taken) else again[:1])
     for bug in bugs:
-        came, said = results.get(bug["id"]) or ("undecided", "")
-        mark = "" if came == ("refused" if bug["expect"] == "refused" else "let through") else "  <- not as expected"
-        print(f"{name} {bug['id']}: {came}{mark}  {said}")
+        came, said = results.get(bug.name) or ("undecided", "")
+        mark = "" if came == ("refused" if bug.refused else "let through") else "  <- not as expected"
+        print(f"{name} {bug.name}: {came}{mark}  {said}")
 
 
 if __name__ == "__main__":

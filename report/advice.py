@@ -102,21 +102,21 @@ def of_loop(first, second, around, kernel):
     if first.record.kind == second.record.kind:
         return f"two iterations of the loop of line {loop.line} write one element: let each write elements of its own, or let one lane do it."
     does, line = of_neighbours(first, second, kernel)
-    return f"in the loop of line {loop.line} {does}: let line {line} write into another array, and copy that back in a loop after this one's barrier."
+    return f"in the loop of line {loop.line} {does}; let line {line} write into another array."
 
 
 def of_neighbours(first, second, kernel):
     """What two lanes do, of which one reads, and the line of the other."""
     reader, writer = (first, second) if first.record.kind == "read" else (second, first)
     read, written = (kernel.expression(it.record.site) for it in (reader, writer))
-    return f"a lane reads by `{read}` what another lane writes by `{written}`", writer.record.line
+    return f"a lane reads as `{read}` what another writes as `{written}`", writer.record.line
 
 
 def of_line(first, second, line, kernel):
     """One statement of the team's own, which all lanes do."""
     if first.record.kind != second.record.kind and kernel.expression(first.record.site) != kernel.expression(second.record.site):
         does, line = of_neighbours(first, second, kernel)
-        return f"{does}: let each lane read into a variable of its own, by `let`, and put a `barrier` before line {line} stores."
+        return f"{does}; let each lane read into a variable of its own, by `let`, and put a `barrier` before line {line} stores."
     return (
         f"every lane of the team comes to line {line}: give each lane an element of its own, such as the one at `tid`, "
         "or let one lane do it by a test of `tid`."

@@ -71,7 +71,7 @@ def order_words(cause, folder):
     forks = f"line {above.lines[interval.region]} forks" + (f" in {lane_words(above, folder)}" if interval.above else "")
     mutex = "no mutex is held at both" if cause.one.held or cause.other.held else "no mutex is held"
     return (
-        f"No fork, join or barrier orders the two: they are in lanes {one} and {other} of the team that {forks}, "
+        f"No fork, join or barrier orders the two: lanes {one} and {other} of the team that {forks}, "
         f"both in its barrier interval {interval.phase + 1}; {mutex}."
     )
 
