@@ -390,7 +390,9 @@ def test_builds(place):
     out = f"{place.root}/crates/sword/out"
     slow = place.tools(rt="echo 'rt: sword proved'; sleep 60")
     pipes = {"stdout": subprocess.PIPE, "stderr": subprocess.PIPE, "text": True, "start_new_session": True}
-    ran = subprocess.Popen([f"{place.root}/sword", "gen", "1", "1"], env={**os.environ, "PATH": slow}, **pipes)
+    # A test that runs in the background may have been told to ignore the signal.
+    heeds = {"preexec_fn": lambda: signal.signal(signal.SIGINT, signal.SIG_DFL)}
+    ran = subprocess.Popen([f"{place.root}/sword", "gen", "1", "1"], env={**os.environ, "PATH": slow}, **pipes, **heeds)
     first = [ran.stderr.readline() for _ in range(2)]
     is_right(first[1] == "sword: sword is proved, 1 of 1\n", f"{first}")
     os.killpg(ran.pid, signal.SIGINT)
