@@ -6,6 +6,7 @@ import struct
 import subprocess
 import sys
 from collections import defaultdict
+from functools import lru_cache
 from typing import NamedTuple
 
 ROOT = os.path.dirname(os.path.dirname(os.path.realpath(__file__)))
@@ -127,6 +128,8 @@ class Folder:
 
     def __init__(self, place):
         self.place, self.tasks, self.below = place, {}, defaultdict(list)
+        # Most races of a folder are found in the same few logs.
+        self.parts = lru_cache(maxsize=2)(self.parts)
         for path, records in self.rows():
             task = self.tasks[path] = Task(path, records)
             task.read(*self.parts(task))
