@@ -3,8 +3,8 @@
 
 usage: test_readme.py SWORD
 
-A line `    $ ./sword WORDS` is a command, and the lines below it, as far as they are indented and not empty, are what it prints. A last line `...` stands for all
-that follows. Commands with `page` make a page, and print nothing.
+A line `    $ ./sword WORDS` is a command, of the script alone if it is `explain-all`, and the lines below it, as far as they are indented and not
+empty, are what it prints. A last line `...` stands for all that follows. Commands with `page` make a page, and print nothing.
 """
 import os
 import shlex
@@ -45,8 +45,10 @@ def main():
         os.symlink(os.path.join(TOP, "examples"), os.path.join(place, "examples"))
         for words, due in commands():
             name, *rest = shlex.split(words)
-            program = sword if name == "./sword" else os.path.join(TOP, name)
-            done = subprocess.run([program, *rest], cwd=place, stdout=subprocess.PIPE, text=True)
+            program = [sword] if name == "./sword" else [os.path.join(TOP, name)]
+            if rest[0] == "explain-all":
+                program, rest = [os.path.join(TOP, "page"), "--text"], rest[1:]
+            done = subprocess.run([*program, *rest], cwd=place, stdout=subprocess.PIPE, text=True)
             printed = done.stdout.split("\n")[:-1]
             good = is_as_shown(printed, due)
             print(f"{words}: {'as shown' if good else f'prints {printed}'}")
