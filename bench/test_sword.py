@@ -312,6 +312,10 @@ def test_faults(place):
         for words in (["run", kernel, logs, "4096"], ["gen", "1", "1"]):
             status, _, beside = place.ask(*words, stdout=full)
             is_right(status == 7 and "a write failed" in beside, f"7, {words}: {status} {beside}")
+    long = place.file("long.kernel", "array a i64 1\nmain { loop k in 0 .. 2000 { a[0] = k } }\n")
+    limited = ["-c", 'ulimit -f 20; exec "$@"', "sh", f"{place.root}/sword", "run", long, f"{place.room}/limited", "4096"]
+    status, _, beside = place.ask(*limited, script="/bin/sh")
+    is_right(status == 7 and "a write failed" in beside, f"7, a file that may grow no further: {status} {beside}")
     for words, other in ((["run", kernel, logs, "4096"], "another folder"), (["upgrade", f"{place.room}/old", logs], "another folder")):
         status, said, beside = place.ask(*words)
         is_right(status == 9 and other in beside, f"9, {words}: {status} {said} {beside}")
