@@ -1,5 +1,5 @@
 // races: 17-17
-// recorder: refused
+// recorder: refused, more than 4 deep
 // Thirty-two lanes on five levels.
 #include <omp.h>
 #include <stdio.h>

@@ -1,4 +1,5 @@
-// races: 11-11
+// races: 12-12
+// at -O1: some
 // Each element needs the one before it, which another lane writes at the edge of its share.
 #include <stdio.h>
 

@@ -23,6 +23,6 @@ int main(void)
             x = 2;
         }
     }
-    printf("%ld\n", y);
+    printf("%d %ld\n", x > 0, y);
     return 0;
 }

@@ -3,7 +3,7 @@
 #include <omp.h>
 #include <stdio.h>
 
-static long x, y;
+long x, y;
 
 int main(void)
 {
@@ -19,6 +19,6 @@ int main(void)
         y++;
         x = 2;
     }
-    printf("%ld\n", y);
+    printf("%ld %ld\n", x, y);
     return 0;
 }

@@ -1,4 +1,5 @@
-// races: 19-22
+// races: 20-23
+// at -O1: some
 // Lane 0 holds a lock over a barrier, and lane 1 takes none.
 #include <omp.h>
 #include <stdio.h>

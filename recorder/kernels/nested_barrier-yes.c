@@ -3,7 +3,7 @@
 #include <omp.h>
 #include <stdio.h>
 
-static long x, y;
+long x, y;
 
 int main(void)
 {
@@ -18,6 +18,6 @@ int main(void)
         }
     } else
         y = x;
-    printf("%d\n", y >= 0);
+    printf("%ld\n", y);
     return 0;
 }

@@ -1,5 +1,5 @@
 // races: none
-// recorder: refused
+// recorder: refused, more than 8 mutexes
 // Nine locks are held at once.
 #include <omp.h>
 #include <stdio.h>

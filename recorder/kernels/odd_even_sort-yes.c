@@ -1,4 +1,5 @@
-// races: 14-14 14-15 15-15
+// races: 14-16 15-15 15-16
+// at -O1: some
 // Neighbours are swapped all at once, so two lanes swap one element.
 #include <stdio.h>
 

@@ -1,5 +1,5 @@
 // races: none
-// recorder: refused
+// recorder: refused, explicit tasks
 // Two tasks of one lane store to one variable, the second after the first.
 #include <stdio.h>
 

@@ -1,5 +1,5 @@
 // races: 14-16
-// recorder: refused
+// recorder: refused, explicit tasks
 // Two tasks of one lane store to one variable.
 #include <stdio.h>
 

@@ -1,5 +1,5 @@
 // races: none
-// recorder: refused
+// recorder: refused, explicit tasks
 // A loop whose chunks are tasks.
 #include <stdio.h>
 

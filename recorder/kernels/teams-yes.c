@@ -1,5 +1,5 @@
 // races: 11-11
-// recorder: refused
+// recorder: refused, teams
 // Three teams raise one counter.
 #include <stdio.h>
 

@@ -12,9 +12,12 @@ __attribute__((noinline)) static unsigned next(void)
 
 int main(void)
 {
-#pragma omp parallel for num_threads(4) copyin(seed)
-    for (int i = 0; i < 64; i++)
-        out[i] = next();
+#pragma omp parallel num_threads(4) copyin(seed)
+    {
+#pragma omp for
+        for (int i = 0; i < 64; i++)
+            out[i] = next();
+    }
     printf("%u\n", out[0]);
     return 0;
 }

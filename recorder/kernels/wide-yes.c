@@ -1,5 +1,5 @@
 // races: 11-11
-// recorder: refused
+// recorder: refused, more than 64 lanes
 // A team of 65 lanes.
 #include <stdio.h>
 
