@@ -1,13 +1,12 @@
 #!/usr/bin/env python3
 """Tests docs/FROM-OPENMP.md. Each kernel on that page is run and checked, and must print the sums and races that stand below it. Each piece of C
 is compiled with clang 14 and run, and the arrays that it shares with the kernels of its row must have the same sums; without clang 14 that is
-left out, and said. Each difference must be that of the two examples that it names, and each example that races must have one. Each row of the
-tables must lead to a heading.
+left out, and said. Each difference must be that of the two examples that it names, and each pair of examples/README.md must have one: the first is
+run and must race as it says there, and its twin must have no race and the sums that it says. Each row of the tables must lead to a heading.
 
 usage: openmp.py SWORD
 """
 import difflib
-import glob
 import os
 import re
 import shutil
@@ -17,6 +16,7 @@ import tempfile
 
 ROOT = os.path.dirname(os.path.dirname(os.path.abspath(__file__)))
 PAGE = os.path.join(ROOT, "docs/FROM-OPENMP.md")
+EXAMPLES = os.path.join(ROOT, "examples")
 CLANG = ["clang-14", "-g", "-O1", "-fopenmp", "-Wall", "-Werror"]
 
 
@@ -48,13 +48,18 @@ def sums(text):
     return dict(re.findall(r"^sum (\w+) (-?\d+)$", text, re.M))
 
 
+def judged(sword, kernel, place):
+    """The sums that `run` prints, and all that `check` does, a line each."""
+    shutil.rmtree(os.path.join(place, "logs"), ignore_errors=True)
+    ran = said([sword, "run", kernel, "logs", "4096"], place)
+    return re.findall(r"^(?:sum|stopped) .*$", ran, re.M), said([sword, "check", "logs", "2"], place).split("\n")[:-1]
+
+
 def kernel_fault(sword, lines, due, place):
     with open(os.path.join(place, "row.kernel"), "w", encoding="utf-8") as out:
         out.write("\n".join(lines) + "\n")
-    shutil.rmtree(os.path.join(place, "logs"), ignore_errors=True)
-    ran = said([sword, "run", "row.kernel", "logs", "4096"], place)
-    printed = [line for line in ran.split("\n") if line.startswith("sum ")] + said([sword, "check", "logs", "2"], place).split("\n")[:-1]
-    return None if printed == due else f"{due} is due, and it prints {printed}: {ran}"
+    sums_printed, races = judged(sword, "row.kernel", place)
+    return None if sums_printed + races == due else f"{due} is due, and it prints {sums_printed + races}"
 
 
 def c_sums(lines, place):
@@ -72,7 +77,7 @@ def c_sums(lines, place):
 
 def example(name):
     """The lines of an example without the comment above it."""
-    with open(os.path.join(ROOT, "examples", name + ".kernel"), encoding="utf-8") as text:
+    with open(os.path.join(EXAMPLES, name + ".kernel"), encoding="utf-8") as text:
         return [line.rstrip("\n") for line in text if not line.startswith("#")]
 
 
@@ -97,12 +102,18 @@ def faults(sword, page, place):
                 yield heading + ", sums", None if both and both.items() <= of_c.items() else f"C has {of_c}"
         elif language == "diff":
             one, other = re.findall(r"`(\w+)\.kernel`", before)
-            mended.add(one)
+            mended.add((one, other))
             due = difference(one, other)
             yield f"{one} to {other}", None if lines == due else "\n".join(["the difference is", *due])
-    for kernel in sorted(glob.glob(os.path.join(ROOT, "examples/*_race.kernel"))):
-        name = os.path.basename(kernel).removesuffix(".kernel")
-        yield f"{name} has a twin", None if name in mended else "no difference mends it"
+    with open(os.path.join(EXAMPLES, "README.md"), encoding="utf-8") as text:
+        pairs = re.findall(r"^\| `(\w+)` \| `(race [\d ]+)` \| `(\w+)` \| (.*?) \|", text.read(), re.M)
+    for one, races, other, told in pairs:
+        yield f"{one} to {other}", None if (one, other) in mended else "no difference leads there"
+        _, found = judged(sword, os.path.join(EXAMPLES, one + ".kernel"), place)
+        yield one, None if found == [races, "races 1"] else f"{races} is due, and `check` prints {found}"
+        due = [f"sum {name} {value}" for name, value in re.findall(r"`(\w+)` (\d+)", told)]
+        found = judged(sword, os.path.join(EXAMPLES, other + ".kernel"), place)
+        yield other, None if found == (due, ["races 0"]) else f"{due} and no race are due, and it prints {found}"
     anchors = {heading.lower().replace(" ", "-") for heading in re.findall(r"^## (.*)$", page, re.M)}
     for link in sorted(set(re.findall(r"\(#([\w-]+)\)", page))):
         yield f"#{link}", None if link in anchors else "there is no such heading"
