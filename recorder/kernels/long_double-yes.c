@@ -1,5 +1,5 @@
 // races: 11-11
-// recorder: none, a miss: clang's pass skips what has no size of its own
+// recorder: refused, doesn't instrument
 // All lanes add to one sum of ten bytes.
 #include <stdio.h>
 

@@ -1,4 +1,5 @@
-// races: 13-13
+// races: 14-14
+// at -O1: some
 // Each row begins with the last element of the row before, which another lane writes.
 #include <stdio.h>
 

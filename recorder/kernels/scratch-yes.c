@@ -3,7 +3,7 @@
 // A variable for a step between is shared by all lanes.
 #include <stdio.h>
 
-static long a[64], t;
+long a[64], t;
 
 int main(void)
 {

@@ -1,4 +1,5 @@
-// races: 12-12
+// races: 13-13
+// at -O1: some
 // A stencil in place: at the edge of its share a lane reads what its neighbour writes.
 #include <stdio.h>
 

@@ -1,4 +1,5 @@
-// races: 21-23
+// races: 22-24
+// at -O1: some
 // Lane 1 goes on although it didn't get the lock, which lane 0 holds over two barriers.
 #include <omp.h>
 #include <stdio.h>
