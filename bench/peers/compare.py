@@ -66,7 +66,7 @@ class Tools:
         return f"{seconds:.2f}, {answers[-1]}"
 
     def folders(self):
-        return sorted(glob.glob(os.path.join(self.place, "logs*")))
+        return sorted(filter(os.path.isdir, glob.glob(os.path.join(self.place, "logs*"))))
 
     def recorded(self, name, race):
         """Times of recording and of checking, the pairs, the records, and the megabytes."""
