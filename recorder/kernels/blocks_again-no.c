@@ -3,16 +3,18 @@
 #include <stdio.h>
 #include <stdlib.h>
 
+enum { BYTES = 8000000, WORDS = BYTES / sizeof(long) };
+
 static long sum[32];
 
 int main(void)
 {
 #pragma omp parallel for num_threads(4) schedule(dynamic, 1)
     for (int i = 0; i < 32; i++) {
-        long *block = malloc(40000000);
-        for (int k = 0; k < 5000000; k += 409600)
+        long *block = malloc(BYTES);
+        for (int k = 0; k < WORDS; k += WORDS / 10)
             block[k] = i;
-        for (int k = 0; k < 5000000; k += 409600)
+        for (int k = 0; k < WORDS; k += WORDS / 10)
             sum[i] += block[k];
         free(block);
     }
