@@ -1,0 +1,70 @@
+# Finds accesses in LLVM's text of a module that clang's -fsanitize=thread doesn't instrument, and that aren't a local variable's own. Tells each line once,
+# and ends with 1 if there is one.
+
+function bits(type, n, of) {
+    if (type ~ /\*$/ || type == "ptr" || type == "double") return 64
+    if (type == "float") return 32
+    if (type == "half" || type == "bfloat") return 16
+    if (type == "x86_fp80") return 80
+    if (type == "fp128") return 128
+    if (type ~ /^i[0-9]+$/) return substr(type, 2) + 0
+    if (match(type, /^<[0-9]+ x .*>$/)) {
+        n = substr(type, 2) + 0
+        of = substr(type, index(type, " x ") + 3)
+        return n * bits(substr(of, 1, length(of) - 1))
+    }
+    return 0 # a struct or an array: not instrumented either
+}
+
+function instrumented(type, bytes) {
+    bytes = int((bits(type) + 7) / 8)
+    return bytes == 1 || bytes == 2 || bytes == 4 || bytes == 8 || bytes == 16
+}
+
+function note(what, at) {
+    match($0, /!dbg ![0-9]+/)
+    at = RSTART ? substr($0, RSTART + 5, RLENGTH - 5) : ""
+    found[at] = what
+    any = 1
+}
+
+# The first type in a text, up to the comma or blank after it.
+function first_type(text, depth, i, c) {
+    depth = 0
+    for (i = 1; i <= length(text); i++) {
+        c = substr(text, i, 1)
+        if (c ~ /[<{[(]/) depth++
+        else if (c ~ /[>}\])]/) depth--
+        else if ((c == "," || c == " ") && !depth) break
+    }
+    return substr(text, 1, i - 1)
+}
+
+function pointer_of(text) {
+    return match(text, /\* [%@][-a-zA-Z0-9._"$]+/) ? substr(text, RSTART + 2, RLENGTH - 2) : ""
+}
+
+/^define / { delete local }
+/^  %[^ ]+ = alloca / { local[$1] = 1 }
+/^  %[^ ]+ = (getelementptr|bitcast) / { if (pointer_of($0) in local) local[$1] = 1 }
+/^  (%[^ ]+ = load|store) / {
+    text = $0
+    sub(/^  (%[^ ]+ = load|store) /, "", text)
+    while (sub(/^(volatile|atomic) /, "", text)) {}
+    type = first_type(text)
+    if (!instrumented(type) && !(pointer_of(substr(text, length(type) + 1)) in local)) note(type)
+}
+/ call .*@llvm\.masked\./ { note("masked") }
+/ call .* asm .*\*m/ { note("assembler") }
+/^![0-9]+ = (distinct )?!DILocation\(line: / {
+    if (any && $1 in found) {
+        match($0, /line: [0-9]+/)
+        line[substr($0, RSTART + 6, RLENGTH - 6)] = found[$1]
+        delete found[$1]
+    }
+}
+END {
+    for (at in found) line[0] = found[at]
+    for (at in line) print "swordcc: " file ":" at ": an access that isn't recorded: " line[at]
+    exit any
+}
