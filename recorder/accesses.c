@@ -9,9 +9,11 @@
 // handler that is compiled so interrupts it.
 #include "recorder.h"
 
-static Seen nothing[2];
-static Task foreign = {.seen = nothing, .shift = 63, .pending = FOREIGN};
+static Seen nothing[SEEN];
+static Task foreign = {.seen = nothing, .pending = FOREIGN};
 __thread Task *cur = &foreign;
+
+static inline uint64_t head_of(unsigned kind, unsigned size, uint64_t place) { return (uint64_t)kind << 56 | (uint64_t)size << 48 | place; }
 
 static inline void spell(unsigned char *to, uint64_t head, uint64_t address)
 {
@@ -21,21 +23,30 @@ static inline void spell(unsigned char *to, uint64_t head, uint64_t address)
     word[2] = 0;
 }
 
-// What must come before the next access. False: the access isn't logged.
-static __attribute__((noinline)) bool prepare(Task *t)
+static void add(Task *t, Seen *seen, uint64_t what, uint64_t when, uint64_t address, uint64_t head);
+
+// Does what must come before the next access, and then adds it, if it is logged.
+static __attribute__((noinline)) void prepare(Task *t, Seen *seen, uint64_t what, uint64_t when, uint64_t address, uint64_t head)
 {
     if (t->pending & FOREIGN) {
         if (atomic_load_explicit(&regions_now, memory_order_relaxed)) cannot(NULL, WHY_THREADS);
-        return false;
+        return;
     }
     if (t->pending & NEW_LOCKS) log_locks(t);
     if (t->pending & NEW_SEGMENT) open_segment(t);
     t->pending = 0;
-    return true;
+    if (t->at < t->end || make_room(t)) add(t, seen, what, when, address, head);
+    else t->lost++;
 }
 
-// Finds the Read that this Write stands for among the last records and makes it the Write.
-static bool becomes_write(Task *t, uint64_t head, uint64_t address)
+static inline void put(Task *t, uint64_t head, uint64_t address)
+{
+    spell(t->at, head, address);
+    t->at += RECORD;
+}
+
+// Logs a Write where the table has the Read that it stands for: that one becomes the Write, if it is one of the last records.
+static __attribute__((noinline)) void add_over_read(Task *t, uint64_t address, uint64_t head)
 {
     const uint64_t kind_and_site = 0xff00ffff00000000ull;
     for (unsigned char *at = t->at; at > t->since && at > t->at - 4 * RECORD;) {
@@ -43,52 +54,73 @@ static bool becomes_write(Task *t, uint64_t head, uint64_t address)
         uint64_t *word = (uint64_t *)at, old = __builtin_bswap64(word[0]);
         if (word[1] == __builtin_bswap64(address) && old >> 56 == READ && !((old ^ head) & ~kind_and_site)) {
             spell(at, head, address);
-            return true;
+            return;
         }
     }
-    return false;
+    put(t, head, address);
 }
 
 // Logs what the table doesn't have.
 static __attribute__((noinline)) void add(Task *t, Seen *seen, uint64_t what, uint64_t when, uint64_t address, uint64_t head)
 {
-    if (t->pending && !prepare(t)) return;
     uint64_t bit = 1ull << (address & 63);
-    if (seen->what != what || seen->when != when) *seen = (Seen){what, when, 0, 0};
-    if (head >> 56 == WRITE) {
-        bool read = seen->reads & bit;
-        seen->writes |= bit;
-        if (read && becomes_write(t, head, address)) return;
-    } else {
-        seen->reads |= bit;
-    }
-    if (t->at >= t->end && !make_room(t)) {
-        t->lost++;
+    if (t->pending || t->at >= t->end) {
+        prepare(t, seen, what, when, address, head);
         return;
     }
-    spell(t->at, head, address);
-    t->at += RECORD;
+    if (seen->what != what || seen->when != when) *seen = (Seen){what, when, 0, 0};
+    if (head >> 56 != WRITE) {
+        seen->reads |= bit;
+    } else {
+        seen->writes |= bit;
+        if (seen->reads & bit) {
+            add_over_read(t, address, head);
+            return;
+        }
+    }
+    put(t, head, address);
 }
 
-static inline __attribute__((always_inline)) void note_one(Task *t, unsigned kind, unsigned size, uint64_t address, uint64_t place)
+// An access of 1, 2, 4 or 8 bytes.
+static inline __attribute__((always_inline)) void note_at(Task *t, unsigned kind, unsigned size, uint64_t address, uint64_t place)
 {
-    if (__builtin_expect(atomic_load_explicit(&stack_names, memory_order_relaxed) != 0, 0)) address = named(address);
     unsigned class = (kind == UPDATE ? 4 : 0) | (size == 1 ? 0 : size == 2 ? 1 : size == 4 ? 2 : 3);
-    uint64_t what = address >> 6 | (uint64_t)class << 42 | t->high, when = place << 32 | (uint32_t)t->epoch;
-    Seen *seen = &t->seen[hash(what ^ when >> 4) >> t->shift];
+    uint64_t what = (address & ~63ull) | class | t->high, when = place << 32 | (uint32_t)t->epoch;
+    Seen *seen = &t->seen[hash(what ^ when << 2) >> (64 - SEEN_BITS)];
     uint64_t logged = kind == READ ? seen->reads | seen->writes : kind == WRITE ? seen->writes : seen->reads;
-    if (seen->what == what && seen->when == when && logged >> (address & 63) & 1) return;
-    add(t, seen, what, when, address, (uint64_t)kind << 56 | (uint64_t)size << 48 | place);
+    if (__builtin_expect(seen->what != what || seen->when != when || !(logged >> (address & 63) & 1), 0))
+        add(t, seen, what, when, address, head_of(kind, size, place));
+}
+
+// The same where the place isn't known yet, or stacks have names.
+static __attribute__((noinline)) void note_slowly(unsigned kind, unsigned size, uint64_t address, const void *return_address)
+{
+    Task *t = cur;
+    uint64_t place = place_of(return_address);
+    if (atomic_load_explicit(&stack_names, memory_order_relaxed)) address = named(address);
+    switch (size) { // so that it is known where note_at is compiled
+    case 1: note_at(t, kind, 1, address, place); break;
+    case 2: note_at(t, kind, 2, address, place); break;
+    case 4: note_at(t, kind, 4, address, place); break;
+    default: note_at(t, kind, 8, address, place);
+    }
 }
 
 static inline __attribute__((always_inline)) void note(unsigned kind, unsigned size, const volatile void *where, const void *return_address)
 {
     Task *t = cur;
-    uint64_t address = (uint64_t)where;
+    uint64_t address = (uint64_t)where, offset = (uint64_t)return_address - text_low;
     if (!t) return;
-    uint64_t place = place_of(return_address);
-    note_one(t, kind, size < 8 ? size : 8, address, place);
-    if (size == 16) note_one(t, kind, 8, address + 8, place);
+    uint64_t place = offset < text_length ? atomic_load_explicit(&places[offset], memory_order_relaxed) : 0;
+    bool slow = !place || atomic_load_explicit(&stack_names, memory_order_relaxed);
+    if (size == 16) {
+        note_slowly(kind, 8, address, return_address);
+        note_slowly(kind, 8, address + 8, return_address);
+    } else if (__builtin_expect(slow, 0)) {
+        note_slowly(kind, size, address, return_address);
+    } else {
+        note_at(t, kind, size, address, place);
+    }
 }
 
 static void note_range(unsigned kind, const void *from, size_t count, const void *return_address)
@@ -96,16 +128,10 @@ static void note_range(unsigned kind, const void *from, size_t count, const void
     Task *t = cur;
     uint64_t at = (uint64_t)from, end = at + count;
     if (!t || !count) return;
-    uint64_t place = place_of(return_address);
     while (at < end) {
         unsigned size = 8;
         while (at % size || at + size > end) size /= 2;
-        switch (size) { // so that a size is known where it is compiled
-        case 1: note_one(t, kind, 1, at, place); break;
-        case 2: note_one(t, kind, 2, at, place); break;
-        case 4: note_one(t, kind, 4, at, place); break;
-        default: note_one(t, kind, 8, at, place);
-        }
+        note_slowly(kind, size, at, return_address);
         at += size;
     }
 }

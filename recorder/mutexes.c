@@ -38,7 +38,7 @@ void choose_epoch(Task *t)
         set->epoch = ++me->epochs;
     }
     t->epoch = set->epoch;
-    t->high = set->epoch >> 32 << 45;
+    t->high = set->epoch >> 32 << 48;
 }
 
 void drop_locks(Task *t, unsigned to)

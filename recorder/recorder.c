@@ -9,7 +9,6 @@
 
 pthread_mutex_t gate = PTHREAD_MUTEX_INITIALIZER;
 atomic_bool partial;
-unsigned table_bits;
 static bool started, child;
 static atomic_bool over;
 static atomic_uint lost, told, notes; // bits: whys for good, whys of some folder, notes
@@ -87,7 +86,6 @@ static void in_child(void)
 static int on_start(ompt_function_lookup_t look_up, int device, ompt_data_t *tool)
 {
     process = getpid();
-    table_bits = setting("SWORDREC_DEDUP", 4, 30, 14);
     atomic_store(&partial, getenv("SWORDREC_PARTIAL") != NULL);
     lines_start();
     reuse_start();

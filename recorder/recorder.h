@@ -78,6 +78,8 @@ typedef struct {
     uint64_t what, when, reads, writes;
 } Seen;
 
+enum { SEEN_BITS = 13, SEEN = 1 << SEEN_BITS }; // of a thread's table of them
+
 // A set of mutexes under which something was accessed in this interval.
 typedef struct {
     uint64_t epoch;
@@ -93,7 +95,6 @@ struct Task {
     unsigned char *at, *end; // where the next record goes, and where no access goes any more
     unsigned char *since;    // the first record after the last one that isn't an access
     Seen *seen;              // its thread's
-    unsigned shift;          // 64 less the table's bits
     unsigned pending;        // what must be done before an access is logged
     uint64_t epoch, high;    // the interval's and set's number, and its upper bits as the table has them
     unsigned char *block;
@@ -127,14 +128,17 @@ typedef struct Thread {
     struct Chunk *held;
 } Thread;
 
+#pragma GCC visibility push(hidden)
+
 extern __thread Task *cur;      // whose accesses are logged now; NULL: nobody's
 extern __thread Thread *me;     // NULL before its first lane
 extern atomic_uint regions_now; // teams of the root that run
 extern atomic_bool partial;     // what can't be wrong but not whole gets an index
-extern unsigned table_bits;     // of a thread's table of what was logged
 
 static inline bool is_foreign(const Task *t) { return t && t->pending & FOREIGN; }
 static inline Task *lane_now(void) { return is_foreign(cur) ? NULL : cur; }
+
+#pragma GCC visibility pop
 
 // The recorder is linked with --wrap, too, and mustn't come to its own wraps.
 void __real_free(void *);
@@ -149,6 +153,8 @@ int __real_pthread_mutex_unlock(pthread_mutex_t *);
 #define memcpy __real_memcpy
 #define mmap __real_mmap
 #define munmap __real_munmap
+
+#pragma GCC visibility push(hidden)
 
 // Of all that more than one thread writes, but for atomics.
 extern pthread_mutex_t gate;
@@ -223,5 +229,7 @@ void name_stack(void);
 uint64_t named(uint64_t address);
 void release_own(void);
 void release_all(void);
+
+#pragma GCC visibility pop
 
 #endif

@@ -185,7 +185,7 @@ bool enter_thread(void)
     if (me) return true;
     Thread *t = calloc(1, sizeof *t);
     if (!t) return false;
-    t->seen = mmap(NULL, sizeof(Seen) << table_bits, PROT_READ | PROT_WRITE, MAP_PRIVATE | MAP_ANONYMOUS, -1, 0);
+    t->seen = mmap(NULL, SEEN * sizeof(Seen), PROT_READ | PROT_WRITE, MAP_PRIVATE | MAP_ANONYMOUS, -1, 0);
     if (t->seen == MAP_FAILED || pthread_getattr_np(pthread_self(), &attributes)) {
         free(t);
         return false;
@@ -225,7 +225,7 @@ void leave_thread(void)
     if (t->held && atomic_load(&regions_now)) cannot(NULL, WHY_FREED);
     release(&t->held);
     free_tasks(t->spare);
-    munmap(t->seen, sizeof(Seen) << table_bits);
+    munmap(t->seen, SEEN * sizeof(Seen));
 }
 
 // Gives this thread's stack a name of its own, for the lane that it is now.

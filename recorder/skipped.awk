@@ -1,5 +1,6 @@
-# Finds accesses in LLVM's text of a module that clang's -fsanitize=thread doesn't instrument, and that aren't a local variable's own. Tells each line once,
-# and ends with 1 if there is one.
+# Reads LLVM's text of a module that clang's -fsanitize=thread instrumented, with compound calls, and looks for two things:
+# - accesses that aren't instrumented and aren't a local variable's own: each line is told once, and 1 is added to the status;
+# - a read that has no call of its own since a write of the same memory follows, in another line: 2 is added to the status.
 
 function bits(type, n, of) {
     if (type ~ /\*$/ || type == "ptr" || type == "double") return 64
@@ -21,10 +22,12 @@ function instrumented(type, bytes) {
     return bytes == 1 || bytes == 2 || bytes == 4 || bytes == 8 || bytes == 16
 }
 
-function note(what, at) {
-    match($0, /!dbg ![0-9]+/)
-    at = RSTART ? substr($0, RSTART + 5, RLENGTH - 5) : ""
-    found[at] = what
+function location() {
+    return match($0, /!dbg ![0-9]+/) ? substr($0, RSTART + 5, RLENGTH - 5) : ""
+}
+
+function note(what) {
+    found[location()] = what
     any = 1
 }
 
@@ -45,6 +48,7 @@ function pointer_of(text) {
 }
 
 /^define / { delete local }
+/^[^ ]+:/ { delete reads } # a block begins
 /^  %[^ ]+ = alloca / { local[$1] = 1 }
 /^  %[^ ]+ = (getelementptr|bitcast) / { if (pointer_of($0) in local) local[$1] = 1 }
 /^  (%[^ ]+ = load|store) / {
@@ -52,19 +56,30 @@ function pointer_of(text) {
     sub(/^  (%[^ ]+ = load|store) /, "", text)
     while (sub(/^(volatile|atomic) /, "", text)) {}
     type = first_type(text)
-    if (!instrumented(type) && !(pointer_of(substr(text, length(type) + 1)) in local)) note(type)
+    pointer = pointer_of(substr(text, length(type) + 1))
+    if (!instrumented(type) && !(pointer in local)) note(type)
+    if (/ = load /) {
+        if (before !~ /@__tsan_/) reads[pointer] = reads[pointer] " " location()
+    } else if (before ~ /@__tsan_(unaligned_)?read_write/) {
+        split(reads[pointer], of, " ")
+        for (i in of) pairs[of[i] " " location()] = 1
+        if (!(pointer in reads)) apart = 1
+    }
+    if (/ store /) delete reads[pointer]
 }
 / call .*@llvm\.masked\./ { note("masked") }
 / call .* asm .*\*m/ { note("assembler") }
+{ before = $0 }
 /^![0-9]+ = (distinct )?!DILocation\(line: / {
-    if (any && $1 in found) {
-        match($0, /line: [0-9]+/)
-        line[substr($0, RSTART + 6, RLENGTH - 6)] = found[$1]
-        delete found[$1]
-    }
+    match($0, /line: [0-9]+/)
+    line[$1] = substr($0, RSTART + 6, RLENGTH - 6)
 }
 END {
-    for (at in found) line[0] = found[at]
-    for (at in line) print "swordcc: " file ":" at ": an access that isn't recorded: " line[at]
-    exit any
+    for (at in found) told[line[at] + 0] = found[at]
+    for (at in told) print "swordcc: " file ":" at ": an access that isn't recorded: " told[at]
+    for (pair in pairs) {
+        split(pair, of, " ")
+        if (!line[of[1]] || line[of[1]] != line[of[2]]) apart = 1
+    }
+    exit any + 2 * apart
 }

@@ -51,7 +51,6 @@ static Task *new_task(void)
         t->block = (unsigned char *)t + BEFORE;
     }
     t->seen = me->seen;
-    t->shift = 64 - table_bits;
     t->held = t->logged = 0;
     t->barriers = 0;
     t->lost = 0;
