@@ -5,13 +5,15 @@ The first table has three kernels and their racing twins, and the same loops in 
 one everything is a false report. The second has larger loops in C, recorded and checked, beside Archer.
 
 usage: compare.py SWORD [--runs N] [--grinds N] [--only small|large], anywhere. It needs Debian's packages clang-14, libomp-14-dev, llvm-14,
-libclang-rt-14-dev (Archer is part of LLVM's OpenMP runtime) and valgrind. A time is the least of N runs, 10 if not told; of `--grinds` runs under
-Helgrind and DRD, 3 if not told. A number of reports is that of the last run, or in how many runs Archer reported a race.
+libclang-rt-14-dev (Archer is part of LLVM's OpenMP runtime) and valgrind. A time is the least of N runs, 10 if not told, of `--grinds` runs under
+Helgrind and DRD, 3 if not told: seconds by the clock, and in brackets those of processors, which other work on the machine changes less. A number of
+reports is that of the last run, or in how many runs Archer reported a race.
 """
 import argparse
 import glob
 import os
 import re
+import resource
 import shutil
 import subprocess
 import tempfile
@@ -28,18 +30,26 @@ REPORT = r"^==\d+== (?:Possible data race|Conflicting (?:load|store)).*\n(?:==\d
 
 
 def output(words, place, **environment):
-    done = subprocess.run(words, cwd=place, stdout=subprocess.PIPE, stderr=subprocess.STDOUT, env={**os.environ, **environment})
+    everything = {**os.environ, "OMP_WAIT_POLICY": "passive", **environment}
+    done = subprocess.run(words, cwd=place, stdout=subprocess.PIPE, stderr=subprocess.STDOUT, env=everything)
     return done.stdout.decode(errors="replace")
 
 
+def spent():
+    """Seconds by the clock, and those of processors in all that ended."""
+    used = resource.getrusage(resource.RUSAGE_CHILDREN)
+    return time.monotonic(), used.ru_utime + used.ru_stime
+
+
 def tried(runs, ask):
-    """The least time of so many runs, and what each answers."""
+    """The least times of so many runs, as a text, and what each run answers."""
     times, answers = [], []
     for _ in range(runs):
-        start = time.monotonic()
+        before = spent()
         answers.append(ask())
-        times.append(time.monotonic() - start)
-    return min(times), answers
+        times.append([after - then for after, then in zip(spent(), before)])
+    clock, processors = map(min, zip(*times))
+    return f"{clock:.2f} ({processors:.2f})", answers
 
 
 class Tools:
@@ -63,7 +73,7 @@ class Tools:
             output([self.sword, "run", os.path.join(HERE, name + ("_race" if race else "") + ".kernel"), "ran", "65536"], self.place)
             return self.races(["ran"])
         seconds, answers = tried(self.runs, ask)
-        return f"{seconds:.2f}, {answers[-1]}"
+        return f"{seconds}, {answers[-1]}"
 
     def folders(self):
         return sorted(filter(os.path.isdir, glob.glob(os.path.join(self.place, "logs*"))))
@@ -92,7 +102,7 @@ class Tools:
         def ask():
             return "WARNING: ThreadSanitizer: data race" in output(["./archer"], self.place, OMP_TOOL_LIBRARIES=ARCHER, TSAN_OPTIONS=options)
         seconds, answers = tried(self.runs, ask)
-        return f"{seconds:.2f}, {sum(answers)} of {self.runs}"
+        return f"{seconds}, {sum(answers)} of {self.runs}"
 
     def valgrind(self, tool, name, race):
         """The time, and the reports: those that begin in the program, and those that begin in the runtime or in the C library."""
@@ -100,8 +110,8 @@ class Tools:
         seconds, answers = tried(self.grinds, lambda: output(["valgrind", "--tool=" + tool, "./plain"], self.place))
         all_reports = int(re.search(r"ERROR SUMMARY: \d+ errors from (\d+) contexts", answers[-1])[1])
         begins = re.findall(REPORT, answers[-1], re.M)
-        own = sum(f"({name}.c:" in line for line in begins)
-        return f"{seconds:.2f}, {own} and {all_reports - own}"
+        own = sum(f"{name}.c:" in line for line in begins)
+        return f"{seconds}, {own} and {all_reports - own}"
 
 
 def small(tools):
@@ -109,7 +119,7 @@ def small(tools):
     for name in SMALL:
         for race in (False, True):
             seconds, checking, found, _, _ = tools.recorded(name, race)
-            cells = [tools.kernel(name, race), f"{seconds:.2f} and {checking:.2f}, {found}"]
+            cells = [tools.kernel(name, race), f"{seconds} and {checking}, {found}"]
             cells += [tools.archer(name, race), tools.archer(name, race, " history_size=7")]
             cells += [tools.valgrind(tool, name, race) for tool in ("helgrind", "drd")]
             print(f"| {name}{', with a race' if race else ''} | " + " | ".join(cells) + " |", flush=True)
@@ -119,7 +129,7 @@ def large(tools):
     print("| Loop | alone | recorded | checked | pairs | records | MB | Archer | its longest history |\n|---|---|---|---|---|---|---|---|---|")
     for name in LARGE:
         seconds, checking, found, records, size = tools.recorded(name, False)
-        cells = [f"{tools.plain(name):.2f}", f"{seconds:.2f}", f"{checking:.2f}", str(found), f"{records:,}", f"{size:,.0f}"]
+        cells = [tools.plain(name), seconds, checking, str(found), f"{records:,}", f"{size:,.0f}"]
         cells += [tools.archer(name, False), tools.archer(name, False, " history_size=7")]
         print(f"| {name} | " + " | ".join(cells) + " |", flush=True)
 
