@@ -104,7 +104,7 @@ struct Task {
     Team *team;
     Part *part;
     Node *node;
-    Task *next_free;
+    Task *outer, *next_free; // the lane that its thread was before; the next that can be used again
     unsigned depth, lane, sets, held, logged;
     bool pooled; // its thread's stack is named for it
     uint32_t step_region[DEPTH];

@@ -1,6 +1,6 @@
 # Reads LLVM's text of a module that clang's -fsanitize=thread instrumented, with compound calls, and looks for two things:
-# - accesses that aren't instrumented and aren't a local variable's own: each line is told once, and 1 is added to the status;
-# - a read that has no call of its own since a write of the same memory follows, in another line: 2 is added to the status.
+# - accesses that aren't instrumented and aren't a local variable's own: each line is told once, and 10 is added to the status;
+# - a read that has no call of its own since a write of the same memory follows, in another line: 20 is added to the status.
 
 function bits(type, n, of) {
     if (type ~ /\*$/ || type == "ptr" || type == "double") return 64
@@ -31,16 +31,21 @@ function note(what) {
     any = 1
 }
 
-# The first type in a text, up to the comma or blank after it.
-function first_type(text, depth, i, c) {
+# The last operand, which is the pointer with its type: what follows the first comma that isn't within brackets.
+function operand(text, depth, i, c) {
     depth = 0
     for (i = 1; i <= length(text); i++) {
         c = substr(text, i, 1)
         if (c ~ /[<{[(]/) depth++
         else if (c ~ /[>}\])]/) depth--
-        else if ((c == "," || c == " ") && !depth) break
+        else if (c == "," && !depth) break
     }
-    return substr(text, 1, i - 1)
+    return substr(text, i + 2)
+}
+
+# The type to which it points.
+function type_of(pointer) {
+    return match(pointer, /\* ([%@]|getelementptr|bitcast|inttoptr)/) ? substr(pointer, 1, RSTART - 1) : ""
 }
 
 function pointer_of(text) {
@@ -55,9 +60,9 @@ function pointer_of(text) {
     text = $0
     sub(/^  (%[^ ]+ = load|store) /, "", text)
     while (sub(/^(volatile|atomic) /, "", text)) {}
-    type = first_type(text)
-    pointer = pointer_of(substr(text, length(type) + 1))
-    if (!instrumented(type) && !(pointer in local)) note(type)
+    text = operand(text)
+    pointer = pointer_of(text)
+    if (!instrumented(type_of(text)) && !(pointer in local)) note(type_of(text))
     if (/ = load /) {
         if (before !~ /@__tsan_/) reads[pointer] = reads[pointer] " " location()
     } else if (before ~ /@__tsan_(unaligned_)?read_write/) {
@@ -81,5 +86,5 @@ END {
         split(pair, of, " ")
         if (!line[of[1]] || line[of[1]] != line[of[2]]) apart = 1
     }
-    exit any + 2 * apart
+    exit 10 * any + 20 * apart
 }

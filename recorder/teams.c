@@ -5,23 +5,23 @@
 // mutex is held there in the log. The lanes agree on it, since each tells its wish before the barrier and looks at all wishes after it.
 //
 // May assume of libomp 14: a team's true number of lanes is known only when its lanes begin; its join is the barrier without a return address, or with the
-// region's; an implicit task's end may come after the team's. What parallel_end is given may be another team's data by then, so each thread keeps its own
-// list of teams. All callbacks of a lane come from the lane's thread.
+// region's. What comes after it, of a lane or of the team, may come so late that the data it is given are another team's by then: so each thread keeps its own
+// list of teams and of lanes, and looks only whether a task's data are its own lane's. All callbacks of a lane come from the lane's thread.
 #include "recorder.h"
 #include <omp-tools.h>
 
 atomic_uint regions_now;
 static __thread Team *team_now; // the innermost that this thread forked
+static __thread Task *mine;     // the innermost lane that this thread is
 static pthread_t main_thread;
 
 // What the runtime keeps for an implicit task: its Task, or one of these.
 static char root, within_parent, unrecorded, ended;
 
-static Task *task_in(const ompt_data_t *data)
-{
-    void *p = data ? data->ptr : NULL;
-    return p == &root || p == &within_parent || p == &unrecorded || p == &ended ? NULL : p;
-}
+static void *get(const ompt_data_t *data) { return data ? __atomic_load_n(&data->ptr, __ATOMIC_RELAXED) : NULL; }
+static void set(ompt_data_t *data, void *to) { __atomic_store_n(&data->ptr, to, __ATOMIC_RELAXED); }
+
+static Task *task_in(const ompt_data_t *data) { return mine && get(data) == mine ? mine : NULL; }
 
 void begin_interval(Task *t)
 {
@@ -66,13 +66,20 @@ void free_tasks(Task *t)
     }
 }
 
-static void close_task(Task *t)
+// The lane's log has ended.
+static void leave_lane(Task *t)
+{
+    if (t->pooled) atomic_store_explicit(&me->name, 0, memory_order_relaxed);
+    mine = t->outer;
+    t->next_free = me->spare;
+    me->spare = t;
+}
+
+static void close_lane(Task *t)
 {
     end_segment(t, END, t->team->line, 0);
     end_log(t);
-    if (t->pooled) atomic_store_explicit(&me->name, 0, memory_order_relaxed);
-    t->next_free = me->spare;
-    me->spare = t;
+    leave_lane(t);
 }
 
 static void on_parallel_begin(ompt_data_t *data, const ompt_frame_t *frame, ompt_data_t *parallel, unsigned lanes, int flags, const void *ra)
@@ -88,7 +95,7 @@ static void on_parallel_begin(ompt_data_t *data, const ompt_frame_t *frame, ompt
     team->above = above;
     team->return_address = ra;
     team->line = line_of(ra);
-    team->dead = !above && (lost_for_good() || (data && data->ptr == &unrecorded));
+    team->dead = !above && (lost_for_good() || get(data) == &unrecorded);
     if (flags & ompt_parallel_league) {
         cannot(above, WHY_LEAGUE);
         team->dead = true;
@@ -136,32 +143,33 @@ static void begin_lane(Team *team, ompt_data_t *data, unsigned span, unsigned la
     }
     begin_log(t, part);
     begin_interval(t);
-    data->ptr = t;
-    cur = t;
+    set(data, t);
+    t->outer = mine;
+    mine = cur = t;
 }
 
 static void on_implicit_task(ompt_scope_endpoint_t end, ompt_data_t *parallel, ompt_data_t *data, unsigned span, unsigned lane, int flags)
 {
     if (flags & ompt_task_initial) {
         Team *league = parallel ? parallel->ptr : NULL;
-        if (end == ompt_scope_begin) data->ptr = league ? &unrecorded : &root;
+        if (end == ompt_scope_begin) set(data, league ? &unrecorded : &root);
         return;
     }
     if (end == ompt_scope_end) {
         Task *t = task_in(data);
         if (!t) return;
         cur = NULL;
-        close_task(t);
-        data->ptr = &ended;
+        set(data, &ended);
+        close_lane(t);
         return;
     }
     Team *team = parallel->ptr;
     if (span == 1 && !team->dead) {
-        data->ptr = &within_parent;
+        set(data, &within_parent);
         return;
     }
     if (!is_foreign(cur)) cur = NULL;
-    data->ptr = &unrecorded;
+    set(data, &unrecorded);
     if (!team->dead) begin_lane(team, data, span, lane);
 }
 
@@ -207,8 +215,8 @@ static void on_sync_region(ompt_sync_region_t kind, ompt_scope_endpoint_t end, o
     if (end == ompt_scope_begin) {
         const bool unnamed = kind == ompt_sync_region_barrier_implicit && (!ra || ra == t->team->return_address);
         if (unnamed || kind == ompt_sync_region_barrier_implicit_parallel) {
-            data->ptr = &ended;
-            close_task(t);
+            set(data, &ended);
+            close_lane(t);
             return;
         }
         t->barriers++;
@@ -217,13 +225,17 @@ static void on_sync_region(ompt_sync_region_t kind, ompt_scope_endpoint_t end, o
         return;
     }
     if (t->depth == 1) release_own();
-    if (pass(t, t->barrier_line)) cur = t;
-    else data->ptr = &unrecorded;
+    if (pass(t, t->barrier_line)) {
+        cur = t;
+    } else {
+        set(data, &unrecorded);
+        leave_lane(t);
+    }
 }
 
 static void on_task_create(ompt_data_t *task, const ompt_frame_t *frame, ompt_data_t *made, int flags, int dependences, const void *ra)
 {
-    if (flags & ompt_task_explicit && !(task && task->ptr == &root)) cannot(is_foreign(cur) ? NULL : cur, WHY_TASKS);
+    if (flags & ompt_task_explicit && get(task) != &root) cannot(is_foreign(cur) ? NULL : cur, WHY_TASKS);
 }
 
 static void on_cancel(ompt_data_t *data, int flags, const void *ra) { cannot(task_in(data), WHY_CANCELLED); }
@@ -238,16 +250,16 @@ static void on_thread_end(ompt_data_t *data) { leave_thread(); }
 
 bool teams_start(void *look_up)
 {
-    ompt_set_callback_t set = (ompt_set_callback_t)((ompt_function_lookup_t)look_up)("ompt_set_callback");
-    if (!set) return false;
+    ompt_set_callback_t ask = (ompt_set_callback_t)((ompt_function_lookup_t)look_up)("ompt_set_callback");
+    if (!ask) return false;
     main_thread = pthread_self();
-    bool good = set(ompt_callback_parallel_begin, (ompt_callback_t)on_parallel_begin) == ompt_set_always;
-    good &= set(ompt_callback_parallel_end, (ompt_callback_t)on_parallel_end) == ompt_set_always;
-    good &= set(ompt_callback_implicit_task, (ompt_callback_t)on_implicit_task) == ompt_set_always;
-    good &= set(ompt_callback_sync_region, (ompt_callback_t)on_sync_region) == ompt_set_always;
-    good &= set(ompt_callback_task_create, (ompt_callback_t)on_task_create) == ompt_set_always;
-    good &= set(ompt_callback_cancel, (ompt_callback_t)on_cancel) == ompt_set_always;
-    good &= set(ompt_callback_dependences, (ompt_callback_t)on_dependences) == ompt_set_always;
-    good &= set(ompt_callback_thread_end, (ompt_callback_t)on_thread_end) == ompt_set_always;
-    return good && mutexes_start((void *)set);
+    bool good = ask(ompt_callback_parallel_begin, (ompt_callback_t)on_parallel_begin) == ompt_set_always;
+    good &= ask(ompt_callback_parallel_end, (ompt_callback_t)on_parallel_end) == ompt_set_always;
+    good &= ask(ompt_callback_implicit_task, (ompt_callback_t)on_implicit_task) == ompt_set_always;
+    good &= ask(ompt_callback_sync_region, (ompt_callback_t)on_sync_region) == ompt_set_always;
+    good &= ask(ompt_callback_task_create, (ompt_callback_t)on_task_create) == ompt_set_always;
+    good &= ask(ompt_callback_cancel, (ompt_callback_t)on_cancel) == ompt_set_always;
+    good &= ask(ompt_callback_dependences, (ompt_callback_t)on_dependences) == ompt_set_always;
+    good &= ask(ompt_callback_thread_end, (ompt_callback_t)on_thread_end) == ompt_set_always;
+    return good && mutexes_start((void *)ask);
 }
