@@ -1,7 +1,8 @@
 // Four lanes count 50,000 times under one mutex. With RACE they count without it.
 #include <stdint.h>
 
-static int64_t s;
+// Volatile, so that the optimizer keeps each access, as the kernel has it.
+static volatile int64_t s;
 
 int main(void)
 {

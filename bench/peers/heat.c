@@ -3,7 +3,8 @@
 
 #define COUNT 20000
 
-static int64_t u[COUNT], v[COUNT];
+// Volatile, so that the optimizer keeps each access, as the kernel has it.
+static volatile int64_t u[COUNT], v[COUNT];
 
 int main(void)
 {

@@ -3,7 +3,8 @@
 
 #define COUNT 1000000
 
-static int64_t a[COUNT + 1];
+// Volatile, so that the optimizer keeps each access, as the kernel has it.
+static volatile int64_t a[COUNT + 1];
 
 int main(void)
 {

@@ -1,0 +1,227 @@
+// What clang's -fsanitize=thread calls before each access, and memcpy, memmove and memset, which --wrap brings here.
+//
+// An access is left out if the thread's table still has one that stands for it: logged in the same interval of the same task, under the same mutexes, in
+// the same line, with the same first byte and size, and of the same kind, or a Write for a Read. A Read that is still in the block becomes the Write that
+// follows it. Both by the law `accesses_may_be_dropped`, whose interval lies between two barriers of the task, over forks and joins. The root's
+// accesses aren't logged at all, by `root_accesses_may_be_dropped`. Values are 0 and a site is a column, by `values_do_not_matter`.
+//
+// May assume: `cur` is the lane that this thread runs, or NULL in the root and within the runtime, or `foreign` in a thread that isn't OpenMP's. No signal
+// handler that is compiled so interrupts it.
+#include "recorder.h"
+
+static Seen nothing[SEEN];
+static Task foreign = {.seen = nothing, .pending = FOREIGN};
+__thread Task *cur = &foreign;
+
+static inline uint64_t head_of(unsigned kind, unsigned size, uint64_t place) { return (uint64_t)kind << 56 | (uint64_t)size << 48 | place; }
+
+static inline void spell(unsigned char *to, uint64_t head, uint64_t address)
+{
+    uint64_t *word = (uint64_t *)to;
+    word[0] = __builtin_bswap64(head);
+    word[1] = __builtin_bswap64(address);
+    word[2] = 0;
+}
+
+static void add(Task *t, Seen *seen, uint64_t what, uint64_t when, uint64_t address, uint64_t head);
+
+// Does what must come before the next access, and then adds it, if it is logged.
+static __attribute__((noinline)) void prepare(Task *t, Seen *seen, uint64_t what, uint64_t when, uint64_t address, uint64_t head)
+{
+    if (t->pending & FOREIGN) {
+        if (atomic_load_explicit(&regions_now, memory_order_relaxed)) cannot(NULL, WHY_THREADS);
+        return;
+    }
+    if (t->pending & NEW_LOCKS) log_locks(t);
+    if (t->pending & NEW_SEGMENT) open_segment(t);
+    t->pending = 0;
+    if (t->at < t->end || make_room(t)) add(t, seen, what, when, address, head);
+    else t->lost++;
+}
+
+static inline void put(Task *t, uint64_t head, uint64_t address)
+{
+    spell(t->at, head, address);
+    t->at += RECORD;
+}
+
+// Logs a Write where the table has the Read that it stands for: that one becomes the Write, if it is one of the last records.
+static __attribute__((noinline)) void add_over_read(Task *t, uint64_t address, uint64_t head)
+{
+    const uint64_t kind_and_site = 0xff00ffff00000000ull;
+    for (unsigned char *at = t->at; at > t->since && at > t->at - 4 * RECORD;) {
+        at -= RECORD;
+        uint64_t *word = (uint64_t *)at, old = __builtin_bswap64(word[0]);
+        if (word[1] == __builtin_bswap64(address) && old >> 56 == READ && !((old ^ head) & ~kind_and_site)) {
+            spell(at, head, address);
+            return;
+        }
+    }
+    put(t, head, address);
+}
+
+// Logs what the table doesn't have.
+static __attribute__((noinline)) void add(Task *t, Seen *seen, uint64_t what, uint64_t when, uint64_t address, uint64_t head)
+{
+    uint64_t bit = 1ull << (address & 63);
+    if (t->pending || t->at >= t->end) {
+        prepare(t, seen, what, when, address, head);
+        return;
+    }
+    if (seen->what != what || seen->when != when) *seen = (Seen){what, when, 0, 0};
+    if (head >> 56 != WRITE) {
+        seen->reads |= bit;
+    } else {
+        seen->writes |= bit;
+        if (seen->reads & bit) {
+            add_over_read(t, address, head);
+            return;
+        }
+    }
+    put(t, head, address);
+}
+
+// An access of 1, 2, 4 or 8 bytes.
+static inline __attribute__((always_inline)) void note_at(Task *t, unsigned kind, unsigned size, uint64_t address, uint64_t place)
+{
+    unsigned class = (kind == UPDATE ? 4 : 0) | (size == 1 ? 0 : size == 2 ? 1 : size == 4 ? 2 : 3);
+    uint64_t what = (address & ~63ull) | class | t->high, when = place << 32 | (uint32_t)t->epoch;
+    Seen *seen = &t->seen[hash(what ^ when << 2) >> (64 - SEEN_BITS)];
+    uint64_t logged = kind == READ ? seen->reads | seen->writes : kind == WRITE ? seen->writes : seen->reads;
+    if (__builtin_expect(seen->what != what || seen->when != when || !(logged >> (address & 63) & 1), 0))
+        add(t, seen, what, when, address, head_of(kind, size, place));
+}
+
+// The same where the place isn't known yet, or stacks have names.
+static __attribute__((noinline)) void note_slowly(unsigned kind, unsigned size, uint64_t address, const void *return_address)
+{
+    Task *t = cur;
+    uint64_t place = place_of(return_address);
+    if (atomic_load_explicit(&stack_names, memory_order_relaxed)) address = named(address);
+    switch (size) { // so that it is known where note_at is compiled
+    case 1: note_at(t, kind, 1, address, place); break;
+    case 2: note_at(t, kind, 2, address, place); break;
+    case 4: note_at(t, kind, 4, address, place); break;
+    default: note_at(t, kind, 8, address, place);
+    }
+}
+
+static inline __attribute__((always_inline)) void note(unsigned kind, unsigned size, const volatile void *where, const void *return_address)
+{
+    Task *t = cur;
+    uint64_t address = (uint64_t)where, offset = (uint64_t)return_address - text_low;
+    if (!t) return;
+    uint64_t place = offset < text_length ? atomic_load_explicit(&places[offset], memory_order_relaxed) : 0;
+    bool slow = !place || atomic_load_explicit(&stack_names, memory_order_relaxed);
+    if (size == 16) {
+        note_slowly(kind, 8, address, return_address);
+        note_slowly(kind, 8, address + 8, return_address);
+    } else if (__builtin_expect(slow, 0)) {
+        note_slowly(kind, size, address, return_address);
+    } else {
+        note_at(t, kind, size, address, place);
+    }
+}
+
+static void note_range(unsigned kind, const void *from, size_t count, const void *return_address)
+{
+    Task *t = cur;
+    uint64_t at = (uint64_t)from, end = at + count;
+    if (!t || !count) return;
+    while (at < end) {
+        unsigned size = 8;
+        while (at % size || at + size > end) size /= 2;
+        note_slowly(kind, size, at, return_address);
+        at += size;
+    }
+}
+
+// ---- What the instrumentation calls ----
+
+#define RA __builtin_return_address(0)
+
+void __tsan_init(void) {}
+void __tsan_func_entry(void *pc) {}
+void __tsan_func_exit(void) {}
+void __tsan_ignore_thread_begin(void) {}
+void __tsan_ignore_thread_end(void) {}
+
+#define PLAIN(N) \
+    void __tsan_read##N(void *a) { note(READ, N, a, RA); } \
+    void __tsan_write##N(void *a) { note(WRITE, N, a, RA); } \
+    void __tsan_volatile_read##N(void *a) { note(READ, N, a, RA); } \
+    void __tsan_volatile_write##N(void *a) { note(WRITE, N, a, RA); } \
+    void __tsan_unaligned_read##N(void *a) { note(READ, N, a, RA); } \
+    void __tsan_unaligned_write##N(void *a) { note(WRITE, N, a, RA); } \
+    void __tsan_unaligned_volatile_read##N(void *a) { note(READ, N, a, RA); } \
+    void __tsan_unaligned_volatile_write##N(void *a) { note(WRITE, N, a, RA); } \
+    void __tsan_read_write##N(void *a) { note(WRITE, N, a, RA); } \
+    void __tsan_unaligned_read_write##N(void *a) { note(WRITE, N, a, RA); }
+PLAIN(1)
+PLAIN(2)
+PLAIN(4)
+PLAIN(8)
+PLAIN(16)
+
+void __tsan_read_range(void *a, size_t n) { note_range(READ, a, n, RA); }
+void __tsan_write_range(void *a, size_t n) { note_range(WRITE, a, n, RA); }
+void __tsan_vptr_read(void **a) { note(READ, 8, a, RA); }
+void __tsan_vptr_update(void **a, void *v) { note(WRITE, 8, a, RA); }
+
+// An atomic access of any kind is an Update, since only updates don't race with each other. Any order is done as the strongest one.
+#define ATOMIC(N, T) \
+    T __tsan_atomic##N##_load(const volatile T *a, int o) { note(UPDATE, N / 8, a, RA); return __atomic_load_n(a, 5); } \
+    void __tsan_atomic##N##_store(volatile T *a, T v, int o) { note(UPDATE, N / 8, a, RA); __atomic_store_n(a, v, 5); } \
+    T __tsan_atomic##N##_exchange(volatile T *a, T v, int o) { note(UPDATE, N / 8, a, RA); return __atomic_exchange_n(a, v, 5); } \
+    T __tsan_atomic##N##_fetch_add(volatile T *a, T v, int o) { note(UPDATE, N / 8, a, RA); return __atomic_fetch_add(a, v, 5); } \
+    T __tsan_atomic##N##_fetch_sub(volatile T *a, T v, int o) { note(UPDATE, N / 8, a, RA); return __atomic_fetch_sub(a, v, 5); } \
+    T __tsan_atomic##N##_fetch_and(volatile T *a, T v, int o) { note(UPDATE, N / 8, a, RA); return __atomic_fetch_and(a, v, 5); } \
+    T __tsan_atomic##N##_fetch_or(volatile T *a, T v, int o) { note(UPDATE, N / 8, a, RA); return __atomic_fetch_or(a, v, 5); } \
+    T __tsan_atomic##N##_fetch_xor(volatile T *a, T v, int o) { note(UPDATE, N / 8, a, RA); return __atomic_fetch_xor(a, v, 5); } \
+    T __tsan_atomic##N##_fetch_nand(volatile T *a, T v, int o) { note(UPDATE, N / 8, a, RA); return __atomic_fetch_nand(a, v, 5); } \
+    int __tsan_atomic##N##_compare_exchange_strong(volatile T *a, T *c, T v, int o, int f) \
+    { \
+        note(UPDATE, N / 8, a, RA); \
+        return __atomic_compare_exchange_n(a, c, v, 0, 5, 5); \
+    } \
+    int __tsan_atomic##N##_compare_exchange_weak(volatile T *a, T *c, T v, int o, int f) \
+    { \
+        note(UPDATE, N / 8, a, RA); \
+        return __atomic_compare_exchange_n(a, c, v, 0, 5, 5); \
+    } \
+    T __tsan_atomic##N##_compare_exchange_val(volatile T *a, T c, T v, int o, int f) \
+    { \
+        note(UPDATE, N / 8, a, RA); \
+        __atomic_compare_exchange_n(a, &c, v, 0, 5, 5); \
+        return c; \
+    }
+ATOMIC(8, uint8_t)
+ATOMIC(16, uint16_t)
+ATOMIC(32, uint32_t)
+ATOMIC(64, uint64_t)
+
+void __tsan_atomic_thread_fence(int o) { __atomic_thread_fence(5); }
+void __tsan_atomic_signal_fence(int o) { __atomic_signal_fence(5); }
+
+void *__real_memmove(void *, const void *, size_t);
+void *__real_memset(void *, int, size_t);
+
+void *__wrap_memcpy(void *to, const void *from, size_t n)
+{
+    note_range(READ, from, n, RA);
+    note_range(WRITE, to, n, RA);
+    return __real_memcpy(to, from, n);
+}
+
+void *__wrap_memmove(void *to, const void *from, size_t n)
+{
+    note_range(READ, from, n, RA);
+    note_range(WRITE, to, n, RA);
+    return __real_memmove(to, from, n);
+}
+
+void *__wrap_memset(void *to, int byte, size_t n)
+{
+    note_range(WRITE, to, n, RA);
+    return __real_memset(to, byte, n);
+}

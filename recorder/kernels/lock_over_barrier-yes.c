@@ -1,0 +1,27 @@
+// races: 20-23
+// at -O1: some
+// Lane 0 holds a lock over a barrier, and lane 1 takes none.
+#include <omp.h>
+#include <stdio.h>
+
+static omp_lock_t l;
+static long s;
+
+int main(void)
+{
+    omp_init_lock(&l);
+#pragma omp parallel num_threads(2)
+    {
+        int me = omp_get_thread_num();
+        if (me == 0)
+            omp_set_lock(&l);
+#pragma omp barrier
+        if (me == 0) {
+            s = s + 1;
+            omp_unset_lock(&l);
+        } else
+            s = s + 2;
+    }
+    printf("%ld\n", s);
+    return 0;
+}

@@ -1,0 +1,20 @@
+// races: none
+// All lanes meet at the end of the loop that writes.
+#include <stdio.h>
+
+static long a[64], b[64];
+
+int main(void)
+{
+#pragma omp parallel num_threads(4)
+    {
+#pragma omp for schedule(static)
+        for (int i = 0; i < 64; i++)
+            a[i] = i;
+#pragma omp for schedule(static)
+        for (int i = 0; i < 64; i++)
+            b[i] = a[63 - i];
+    }
+    printf("%ld\n", b[7]);
+    return 0;
+}

@@ -1,0 +1,228 @@
+// Mutexes: critical sections, locks and `ordered` as the runtime tells of them, a reduction's section, and mutexes of pthreads that --wrap brings here.
+//
+// A Lock is logged with the first access under it, and the log has mutexes in an order of its own: so those that aren't released in reverse order, or are
+// held at a barrier or fork, are unlocked and locked again, with no access in between (`locks_may_move`: at each access the same set is held). Of more than
+// 8 the first 8 are logged, and that is told.
+//
+// Mutexes are numbered as they are first seen, anew in each region of the root. One that was destroyed has a new number when it is seen again.
+//
+// May assume: a lane acquires and releases in its own thread; within a reduction's section clang holds one lock, the same for all reductions.
+#include "recorder.h"
+#include <omp-tools.h>
+
+enum { SLOTS = 1 << 17, REDUCTION = 0 };
+
+static struct {
+    _Atomic uint64_t id;
+    atomic_uint number; // 0: forgotten
+} slots[SLOTS];
+static unsigned numbers = 1, used; // with the gate held
+static uint32_t slot_used[SLOTS / 2];
+
+// ---- Sets, and what the log has of them ----
+
+// Finds the number of the interval under the mutexes that are held.
+void choose_epoch(Task *t)
+{
+    unsigned n = t->held < HELD ? t->held : HELD, sets = t->sets < SETS ? t->sets : SETS;
+    Set *set = NULL;
+    for (unsigned i = 0; i < sets && !set; i++) {
+        unsigned k = 0;
+        while (k < n && t->set[i].mutex[k] == t->mutex[k]) k++;
+        if (t->set[i].count == n && k == n) set = &t->set[i];
+    }
+    if (!set) {
+        set = &t->set[t->sets++ % SETS];
+        set->count = n;
+        for (unsigned k = 0; k < n; k++) set->mutex[k] = t->mutex[k];
+        set->epoch = ++me->epochs;
+    }
+    t->epoch = set->epoch;
+    t->high = set->epoch >> 32 << 48;
+}
+
+void drop_locks(Task *t, unsigned to)
+{
+    while (t->logged > to) {
+        t->logged--;
+        put_mark(t, UNLOCK, t->in_log_line[t->logged], t->in_log[t->logged], 0);
+    }
+}
+
+void log_locks(Task *t)
+{
+    unsigned same = 0, n = t->held < HELD ? t->held : HELD;
+    while (same < n && same < t->logged && t->mutex[same] == t->in_log[same]) same++;
+    drop_locks(t, same);
+    for (; t->logged < n; t->logged++) {
+        t->in_log[t->logged] = t->mutex[t->logged];
+        t->in_log_line[t->logged] = t->mutex_line[t->logged];
+        put_mark(t, LOCK, t->mutex_line[t->logged], t->mutex[t->logged], 0);
+    }
+}
+
+// ---- Numbers ----
+
+// 0 if there is none left.
+static unsigned find_number(uint64_t id)
+{
+    unsigned i = hash(id) >> 47;
+    for (uint64_t there; (there = atomic_load_explicit(&slots[i].id, memory_order_acquire)); i = (i + 1) % SLOTS)
+        if (there == id) {
+            unsigned number = atomic_load_explicit(&slots[i].number, memory_order_relaxed);
+            if (number) return number;
+            break;
+        }
+    close_gate();
+    i = hash(id) >> 47;
+    while (slots[i].id && slots[i].id != id) i = (i + 1) % SLOTS;
+    unsigned number = slots[i].number;
+    if (!number && numbers < MUTEXES && (slots[i].id || used < SLOTS / 2)) {
+        number = numbers++;
+        if (!slots[i].id) slot_used[used++] = i;
+        atomic_store_explicit(&slots[i].number, number, memory_order_relaxed);
+        atomic_store_explicit(&slots[i].id, id, memory_order_release);
+    }
+    open_gate();
+    return number;
+}
+
+static void forget(uint64_t id)
+{
+    close_gate();
+    unsigned i = hash(id) >> 47;
+    while (slots[i].id && slots[i].id != id) i = (i + 1) % SLOTS;
+    if (slots[i].id) atomic_store_explicit(&slots[i].number, 0, memory_order_relaxed);
+    open_gate();
+}
+
+// No region runs.
+void mutexes_forget(void)
+{
+    close_gate();
+    while (used) {
+        used--;
+        atomic_store(&slots[slot_used[used]].id, 0);
+        atomic_store(&slots[slot_used[used]].number, 0);
+    }
+    numbers = 1;
+    open_gate();
+}
+
+// ---- Holding ----
+
+static void hold(Task *t, unsigned number, uint32_t line)
+{
+    for (unsigned i = 0; i < t->held; i++)
+        if (t->mutex[i] == number) {
+            t->times[i]++;
+            return;
+        }
+    if (t->held >= HELD) cannot(t, WHY_MANY_MUTEXES);
+    if (t->held == HOLDS) return;
+    t->mutex[t->held] = number;
+    t->times[t->held] = 1;
+    t->mutex_line[t->held++] = line;
+    t->pending |= NEW_LOCKS;
+    choose_epoch(t);
+}
+
+static void let_go(Task *t, unsigned number)
+{
+    unsigned i = 0;
+    while (i < t->held && t->mutex[i] != number) i++;
+    if (i == t->held || --t->times[i]) return;
+    for (i++; i < t->held; i++) {
+        t->mutex[i - 1] = t->mutex[i];
+        t->times[i - 1] = t->times[i];
+        t->mutex_line[i - 1] = t->mutex_line[i];
+    }
+    t->held--;
+    t->pending |= NEW_LOCKS;
+    choose_epoch(t);
+}
+
+static void acquired(uint64_t id, const void *ra)
+{
+    Task *t = cur;
+    if (!t || is_foreign(t)) return;
+    cur = NULL;
+    unsigned number = find_number(id);
+    if (number) hold(t, number, line_of(ra));
+    else cannot(t, WHY_MANY_MUTEXES);
+    cur = t;
+}
+
+static void released(uint64_t id)
+{
+    Task *t = cur;
+    if (!t || is_foreign(t)) return;
+    unsigned number = find_number(id);
+    if (number) let_go(t, number);
+}
+
+// ---- What the runtime tells ----
+
+static void on_acquired(ompt_mutex_t kind, ompt_wait_id_t id, const void *ra) { acquired(id, ra); }
+static void on_released(ompt_mutex_t kind, ompt_wait_id_t id, const void *ra) { released(id); }
+static void on_destroy(ompt_mutex_t kind, ompt_wait_id_t id, const void *ra) { forget(id); }
+
+static void on_reduction(ompt_sync_region_t kind, ompt_scope_endpoint_t end, ompt_data_t *parallel, ompt_data_t *data, const void *ra)
+{
+    Task *t = cur;
+    if (!t || is_foreign(t)) return;
+    if (end == ompt_scope_begin) hold(t, REDUCTION, line_of(ra));
+    else let_go(t, REDUCTION);
+}
+
+bool mutexes_start(void *set_callback)
+{
+    ompt_set_callback_t set = (ompt_set_callback_t)set_callback;
+    bool good = set(ompt_callback_mutex_acquired, (ompt_callback_t)on_acquired) == ompt_set_always;
+    good &= set(ompt_callback_mutex_released, (ompt_callback_t)on_released) == ompt_set_always;
+    good &= set(ompt_callback_lock_destroy, (ompt_callback_t)on_destroy) == ompt_set_always;
+    good &= set(ompt_callback_reduction, (ompt_callback_t)on_reduction) == ompt_set_always;
+    return good;
+}
+
+// ---- Mutexes of pthreads ----
+
+#define RA __builtin_return_address(0)
+
+int __real_pthread_mutex_trylock(pthread_mutex_t *);
+int __real_pthread_mutex_timedlock(pthread_mutex_t *, const struct timespec *);
+int __real_pthread_mutex_destroy(pthread_mutex_t *);
+int __real_pthread_spin_lock(pthread_spinlock_t *);
+int __real_pthread_spin_trylock(pthread_spinlock_t *);
+int __real_pthread_spin_unlock(pthread_spinlock_t *);
+
+// EOWNERDEAD: it was acquired all the same.
+static int after(int status, const volatile void *mutex, const void *ra)
+{
+    if (status == 0 || status == EOWNERDEAD) acquired((uint64_t)mutex, ra);
+    return status;
+}
+
+int __wrap_pthread_mutex_lock(pthread_mutex_t *m) { return after(__real_pthread_mutex_lock(m), m, RA); }
+int __wrap_pthread_mutex_trylock(pthread_mutex_t *m) { return after(__real_pthread_mutex_trylock(m), m, RA); }
+int __wrap_pthread_mutex_timedlock(pthread_mutex_t *m, const struct timespec *t) { return after(__real_pthread_mutex_timedlock(m, t), m, RA); }
+int __wrap_pthread_spin_lock(pthread_spinlock_t *m) { return after(__real_pthread_spin_lock(m), m, RA); }
+int __wrap_pthread_spin_trylock(pthread_spinlock_t *m) { return after(__real_pthread_spin_trylock(m), m, RA); }
+
+int __wrap_pthread_mutex_unlock(pthread_mutex_t *m)
+{
+    released((uint64_t)m);
+    return __real_pthread_mutex_unlock(m);
+}
+
+int __wrap_pthread_spin_unlock(pthread_spinlock_t *m)
+{
+    released((uint64_t)m);
+    return __real_pthread_spin_unlock(m);
+}
+
+int __wrap_pthread_mutex_destroy(pthread_mutex_t *m)
+{
+    forget((uint64_t)m);
+    return __real_pthread_mutex_destroy(m);
+}

@@ -1,0 +1,235 @@
+// What the files of the recorder share. README.md says what it is; each file says at its top what it does and what it may assume.
+#ifndef RECORDER_H
+#define RECORDER_H
+
+#define _GNU_SOURCE
+#include <errno.h>
+#include <pthread.h>
+#include <stdatomic.h>
+#include <stdbool.h>
+#include <stdint.h>
+#include <stdlib.h>
+#include <string.h>
+#include <sys/mman.h>
+#include <unistd.h>
+
+// Kinds of records, and limits of the format (docs/FORMATS.md).
+enum { READ = 1, WRITE = 2, LOCK = 3, UNLOCK = 4, BARRIER = 5, REGION = 6, END = 8, UPDATE = 9 };
+enum { RECORDS = 4194304, ROWS = 65536, SEGMENTS = 65536, LANES = 64, DEPTH = 4, HELD = 8, MUTEXES = 65536 };
+enum { RECORD = 24, HEADER = 8, BLOCK = 10922 * RECORD }; // bytes of a record, of a log's header and of a task's block
+
+// Why a folder gets no index.
+#define WHYS(WHY) \
+    WHY(TASKS, "explicit tasks: the format has none") \
+    WHY(LEAGUE, "teams: the format has no leagues") \
+    WHY(CANCELLED, "a construct was cancelled: its lanes don't pass the same barriers") \
+    WHY(WIDE, "a region of more than 64 lanes") \
+    WHY(DEEP, "regions nested more than 4 deep") \
+    WHY(MANY_ROWS, "more than 65,536 tasks under one region of the root, between two of its barriers") \
+    WHY(MANY_SEGMENTS, "more than 65,536 barrier intervals with an access, between two barriers of the outermost team") \
+    WHY(LONG, "a lane has too many different accesses between two barriers of the outermost team: a log holds 4,194,304 records." \
+              " Put a barrier into the loop, or give it fewer elements or more lanes") \
+    WHY(FULL, "a log is full of locks, barriers and regions") \
+    WHY(FILES, "a file couldn't be written") \
+    WHY(THERE, "a folder that is there already is left alone") \
+    WHY(MANY_MUTEXES, "more than 8 mutexes held at once, or more than 65,535 in a region of the root") \
+    WHY(THREADS, "a thread that isn't OpenMP's made accesses while a region ran, or forked one") \
+    WHY(WITHIN, "the program ended within a region") \
+    WHY(STACKS, "too many threads or lanes of nested teams, or stacks of more than 64 MB") \
+    WHY(FREED, "too much memory was freed between two barriers of the outermost team (SWORDREC_HOLD)") \
+    WHY(LINES, "code whose line isn't known: compile all of it with recorder/swordcc (-g), and leave it uncompressed") \
+    WHY(SKIPPED, "accesses that the compiler doesn't instrument, told when it compiled") \
+    WHY(MEMORY, "out of memory")
+#define ONE_WHY(name, text) WHY_##name,
+enum { WHYS(ONE_WHY) WHYS_COUNT };
+#undef ONE_WHY
+
+// What is told and leaves the index: pairs of what is under it may be false.
+#define NOTES(NOTE) \
+    NOTE(LOCKED_FORK, "a lane forked a team while it held a mutex: that the team's lanes have it isn't in the logs, so their pairs may be false") \
+    NOTE(DOACROSS, "order by depend(sink) or doacross isn't in the format, so pairs of such loops may be false")
+#define ONE_NOTE(name, text) NOTE_##name,
+enum { NOTES(ONE_NOTE) NOTES_COUNT };
+#undef ONE_NOTE
+
+typedef struct Part Part;
+typedef struct Run Run;
+typedef struct Team Team;
+typedef struct Task Task;
+
+// What the index needs of a task.
+typedef struct {
+    uint32_t records, regions, room;
+    Part **region;
+} Node;
+
+// A region as a folder has it: a team's whole work or, of a team of the root, what lies between two barriers at which it was cut.
+struct Part {
+    Run *run;
+    Part *next; // where the team goes on after the cut
+    uint32_t number;
+    unsigned span;
+    Node lane[];
+};
+
+// A place in the table of what was logged: 64 bytes of memory as one line accesses them in one interval, with one size and set of mutexes.
+// A bit stands for the byte at which an access begins.
+typedef struct {
+    uint64_t what, when, reads, writes;
+} Seen;
+
+enum { SEEN_BITS = 13, SEEN = 1 << SEEN_BITS }; // of a thread's table of them
+
+// A set of mutexes under which something was accessed in this interval.
+typedef struct {
+    uint64_t epoch;
+    unsigned count;
+    uint16_t mutex[HELD];
+} Set;
+
+enum { SETS = 8, HOLDS = 64 };
+enum { NEW_SEGMENT = 1, NEW_LOCKS = 2, FOREIGN = 4 };
+
+// One lane of a team while it runs. Only its thread touches it.
+struct Task {
+    unsigned char *at, *end; // where the next record goes, and where no access goes any more
+    unsigned char *since;    // the first record after the last one that isn't an access
+    Seen *seen;              // its thread's
+    unsigned pending;        // what must be done before an access is logged
+    uint64_t epoch, high;    // the interval's and set's number, and its upper bits as the table has them
+    unsigned char *block;
+    uint32_t written; // records that are in the file
+    uint32_t barriers, barrier_line;
+    uint64_t lost;
+    Team *team;
+    Part *part;
+    Node *node;
+    Task *outer, *next_free; // the lane that its thread was before; the next that can be used again
+    unsigned depth, lane, sets, held, logged;
+    bool pooled; // its thread's stack is named for it
+    uint32_t step_region[DEPTH];
+    uint16_t step_lane[DEPTH];
+    Set set[SETS];
+    uint16_t in_log[HELD];
+    uint32_t in_log_line[HELD];
+    uint16_t mutex[HOLDS];
+    uint16_t times[HOLDS];
+    uint32_t mutex_line[HOLDS];
+};
+
+// A thread that ran a lane. Only it touches what is here, but for `name` (of its stack), and `held` while no region runs.
+typedef struct Thread {
+    struct Thread *next;
+    Seen *seen;
+    uint64_t epochs;
+    Task *spare;
+    uint64_t low, high; // its stack
+    atomic_uint name;   // 0 unless it is a lane from 1 on of a nested team
+    struct Chunk *held;
+} Thread;
+
+#pragma GCC visibility push(hidden)
+
+extern __thread Task *cur;      // whose accesses are logged now; NULL: nobody's
+extern __thread Thread *me;     // NULL before its first lane
+extern atomic_uint regions_now; // teams of the root that run
+extern atomic_bool partial;     // what can't be wrong but not whole gets an index
+
+static inline bool is_foreign(const Task *t) { return t && t->pending & FOREIGN; }
+static inline Task *lane_now(void) { return is_foreign(cur) ? NULL : cur; }
+
+#pragma GCC visibility pop
+
+// The recorder is linked with --wrap, too, and mustn't come to its own wraps.
+void __real_free(void *);
+void *__real_realloc(void *, size_t);
+void *__real_memcpy(void *, const void *, size_t);
+void *__real_mmap(void *, size_t, int, int, int, off_t);
+int __real_munmap(void *, size_t);
+int __real_pthread_mutex_lock(pthread_mutex_t *);
+int __real_pthread_mutex_unlock(pthread_mutex_t *);
+#define free __real_free
+#define realloc __real_realloc
+#define memcpy __real_memcpy
+#define mmap __real_mmap
+#define munmap __real_munmap
+
+#pragma GCC visibility push(hidden)
+
+// Of all that more than one thread writes, but for atomics.
+extern pthread_mutex_t gate;
+static inline void close_gate(void) { __real_pthread_mutex_lock(&gate); }
+static inline void open_gate(void) { __real_pthread_mutex_unlock(&gate); }
+
+// recorder.c
+void cannot(Task *t, unsigned why); // for the task's folder, or from now on if there is no task
+void note_that(unsigned note);
+bool lost_for_good(void);
+void say(const char *format, ...) __attribute__((format(printf, 1, 2)));
+uint64_t setting(const char *name, uint64_t least, uint64_t most, uint64_t otherwise);
+
+// accesses.c
+static inline uint64_t hash(uint64_t key) { return key * 0x9e3779b97f4a7c15ull; }
+
+// lines.c: a place is site << 32 | line, as a record has it
+extern uint64_t text_low, text_length; // of the program's own code
+extern _Atomic uint64_t *places;       // by address in it; 0: not asked yet
+void lines_start(void);
+void lines_tell(void);
+uint64_t find_place(uint64_t return_address);
+static inline uint64_t place_of(const void *return_address)
+{
+    uint64_t offset = (uint64_t)return_address - text_low;
+    uint64_t place = offset < text_length ? atomic_load_explicit(&places[offset], memory_order_relaxed) : 0;
+    return place ? place : find_place((uint64_t)return_address);
+}
+static inline uint32_t line_of(const void *return_address) { return return_address ? (uint32_t)place_of(return_address) : 1; }
+
+// folder.c: logs, and what has them
+bool folder_start(void);
+void folder_end(bool within);
+void fail_folder(const Part *part, unsigned why);
+Part *part_of(Team *team, unsigned span);       // the team's first part; NULL: it can't be recorded, and that was told
+Part *part_after(Part *part, Team *team);       // the part that follows a cut
+bool part_is_big(const Task *t);                // whether it is time to cut
+void begin_log(Task *t, Part *part);
+void end_log(Task *t);
+void put_mark(Task *t, unsigned kind, uint32_t line, uint64_t address, uint64_t value);
+bool make_room(Task *t);                        // for an access; false: there is none
+void open_segment(Task *t);
+
+// mutexes.c
+bool mutexes_start(void *set_callback);
+void mutexes_forget(void);
+void choose_epoch(Task *t);
+void drop_locks(Task *t, unsigned to);
+void log_locks(Task *t);
+
+// teams.c
+struct Team {
+    Team *outer; // the one that its thread forked before and hasn't joined
+    Task *above; // NULL: the root
+    const void *return_address;
+    uint32_t line;
+    bool dead;    // its lanes aren't recorded
+    bool counted; // in regions_now
+    bool failed;  // a part of it can't be recorded; with the gate held
+    Part *first;
+    atomic_uint want[2]; // the barriers at which the team is cut
+};
+bool teams_start(void *look_up);
+void free_tasks(Task *t);
+
+// reuse.c: memory that is used again
+extern atomic_uint stack_names; // 0: no stack has a name
+void reuse_start(void);
+bool enter_thread(void);
+void leave_thread(void);
+void name_stack(void);
+uint64_t named(uint64_t address);
+void release_own(void);
+void release_all(void);
+
+#pragma GCC visibility pop
+
+#endif
