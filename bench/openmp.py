@@ -111,7 +111,7 @@ def faults(sword, page, place):
         yield f"{one} to {other}", None if (one, other) in mended else "no difference leads there"
         _, found = judged(sword, os.path.join(EXAMPLES, one + ".kernel"), place)
         yield one, None if found == [races, "races 1"] else f"{races} is due, and `check` prints {found}"
-        due = [f"sum {name} {value}" for name, value in re.findall(r"`(\w+)` (\d+)", told)]
+        due = re.findall(r"`(sum \w+ -?\d+)`", told)
         found = judged(sword, os.path.join(EXAMPLES, other + ".kernel"), place)
         yield other, None if found == (due, ["races 0"]) else f"{due} and no race are due, and it prints {found}"
     anchors = {heading.lower().replace(" ", "-") for heading in re.findall(r"^## (.*)$", page, re.M)}
