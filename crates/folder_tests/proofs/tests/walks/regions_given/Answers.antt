@@ -13,5 +13,5 @@ next-requires-2-clause-swept g c κs within =
     let trace = begins.root ∷ [] in
     let gives : GivesRegion FORMAT (g.F.Folder.state c.open.new.folder).content c.args.dir.now c.in-Ok.sweep c.next.new.self trace c.in-Ok-Some.field-0-0.items =
     subst (λ (o : Option (Vec Segment Global)). IfSome o (λ segments. GivesRegion FORMAT (g.F.Folder.state c.open.new.folder).content c.args.dir.now c.in-Ok.sweep c.next.new.self trace segments.items)) c.in-Ok-Some.field-0-is
-    (c.in-Ok-Some.ensures.next.region FORMAT c.args.dir.now trace (subst (λ (s : FolderState). HasSwept FORMAT s.content c.args.dir.now c.in-Ok.sweep trace) (sym c.open.ensures.same) begins.swept)) in
-    (FORMAT, c.args.dir.now, trace ++ gives.more, subst (λ (s : FolderState). HasSwept FORMAT s.content c.args.dir.now c.next.new.self (trace ++ gives.more)) (sym c.next.ensures.same) gives.swept)
+    (c.in-Ok-Some.ensures.next.region FORMAT c.args.dir.now trace (subst (λ (s : FolderState). HasSwept FORMAT s.content c.args.dir.now c.in-Ok.sweep trace) (sym c.open.ensures.reads.same) begins.swept)) in
+    (FORMAT, c.args.dir.now, trace ++ gives.more, subst (λ (s : FolderState). HasSwept FORMAT s.content c.args.dir.now c.next.new.self (trace ++ gives.more)) (sym c.next.ensures.reads.same) gives.swept)
