@@ -4,9 +4,10 @@
 usage: test_readme.py SWORD
 
 A line `    $ ./sword WORDS` is a command, of the script alone if it is `explain-all`, and the lines below it, as far as they are indented and not
-empty, are what it prints. A last line `...` stands for all that follows. Commands with `page` make a page, and print nothing.
+empty, are what it prints. A last line `...` stands for all that follows. Of a kernel whose name ends in `_race` the sums may be others.
 """
 import os
+import re
 import shlex
 import subprocess
 import sys
@@ -31,7 +32,9 @@ def commands():
     return found
 
 
-def is_as_shown(printed, due):
+def is_as_shown(words, printed, due):
+    if "_race.kernel" in words:
+        printed, due = ([re.sub(r"^(sum \w+) .*", r"\1", line) for line in lines] for lines in (printed, due))
     if due and due[-1] == "...":
         return printed[: len(due) - 1] == due[:-1]
     return printed == due
@@ -50,7 +53,7 @@ def main():
                 program, rest = [os.path.join(TOP, "page"), "--text"], rest[1:]
             done = subprocess.run([*program, *rest], cwd=place, stdout=subprocess.PIPE, text=True)
             printed = done.stdout.split("\n")[:-1]
-            good = is_as_shown(printed, due)
+            good = is_as_shown(words, printed, due)
             print(f"{words}: {'as shown' if good else f'prints {printed}'}")
             wrong += not good
     print(f"{len(commands()) - wrong} passed, {wrong} failed")
