@@ -176,6 +176,7 @@ const RACY: Calls<'static> = Calls {
     },
     reads: 2,
     writes: 0,
+    roots: 0,
     puts: &[],
     prints: 3,
     logs: &[],
