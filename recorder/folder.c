@@ -1,8 +1,9 @@
 // Folders: the logs of tasks, and the index that makes a folder whole (docs/FORMATS.md).
 //
-// A folder goes on in a new one, DIR.1, DIR.2 and so on, between two regions of the root, when it is large or has failed: by the law `run_may_be_split`
-// the pairs are the union of the folders'. A team of the root is cut at a barrier into two regions when a log or the folder grows long, by
-// `region_may_be_cut`. A folder gets its index, under another name first, when its last lane has left it. One in which something wasn't recorded gets none.
+// A folder goes on in a new one, DIR.1, DIR.2 and so on, between two regions of the root, when it is large or has failed: by the law
+// `run_may_be_split` the pairs are the union of the folders'. A team of the root is cut at a barrier into two regions when a log or the folder
+// grows long, by `region_may_be_cut`. A folder gets its index, under another name first, when its last lane has left it. One in which something
+// wasn't recorded gets none.
 //
 // A log is opened for each block that is written, and closed again: so a program that closes or reuses descriptors does no harm.
 //

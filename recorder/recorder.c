@@ -52,7 +52,7 @@ uint64_t setting(const char *name, uint64_t least, uint64_t most, uint64_t other
     errno = 0;
     unsigned long long value = strtoull(text, &end, 10);
     if (!errno && !*end && text[0] != '-' && value >= least && value <= most) return value;
-    say("%s isn't a number from %llu to %llu, so it is %llu", name, (unsigned long long)least, (unsigned long long)most, (unsigned long long)otherwise);
+    say("%s isn't a number from %llu to %llu", name, (unsigned long long)least, (unsigned long long)most);
     return otherwise;
 }
 
@@ -110,7 +110,8 @@ ompt_start_tool_result_t *ompt_start_tool(unsigned version, const char *runtime)
     return &result;
 }
 
-// Starts the runtime before threads are there: libomp 14 crashes where a tool asks for mutexes and the first call is a critical section of another thread.
+// Starts the runtime before threads are there: libomp 14 crashes where a tool asks for mutexes and its first call is a critical section in another
+// thread.
 static __attribute__((constructor(101))) void start(void)
 {
     cur = NULL;

@@ -1,14 +1,15 @@
-// Memory that is used again while a region of the root runs, and threads, whose stacks are such memory. Two lanes that use the same memory for different
-// things, one after the other, don't race; so nothing may be at one address in the logs twice, unless barriers or joins of the root's team lie between.
+// Memory that is used again while a region of the root runs, and threads, whose stacks are such memory. Two lanes that use the same memory for
+// different things, one after the other, don't race; so nothing may be at one address in the logs twice, unless barriers or joins of the root's
+// team lie between.
 //
-// - What is freed or unmapped in a region is held back until the lane's thread has passed a barrier of the root's team, or until the region ends. Of large
-//   blocks and of mappings only the addresses are: their memory is given back at once. realloc moves.
-// - In a team of the root a lane is one thread, whose stack is in one order with the lane. Of a nested team the lanes from 1 on are threads of a pool, which
-//   go from team to team: what is in the stack of such a thread (thread-local variables lie there, too) is logged with an address from 2^47 on,
-//   other ones for each lane that the thread was, also where other lanes access it.
+// - What is freed or unmapped in a region is held back until the lane's thread has passed a barrier of the root's team, or until the region ends.
+//   Of large blocks and of mappings only the addresses are: their memory is given back at once. realloc moves.
+// - In a team of the root a lane is one thread, whose stack is in one order with the lane. Of a nested team the lanes from 1 on are threads of a
+//   pool, which go from team to team: what is in the stack of such a thread (thread-local variables lie there, too) is logged with an address from
+//   2^47 on, other ones for each lane that the thread was, also where other lanes access it.
 //
-// May assume: --wrap brings free, realloc, reallocarray, munmap and mmap of the program here, and only the program's; user addresses are below 2^47; a page
-// isn't put by MAP_FIXED where a program that never did so before has just unmapped one.
+// May assume: --wrap brings free, realloc, reallocarray, munmap and mmap of the program here, and only the program's; user addresses are below
+// 2^47; a page isn't put by MAP_FIXED where a program that never did so before has just unmapped one.
 #include "recorder.h"
 #include <malloc.h>
 
@@ -239,7 +240,8 @@ void name_stack(void)
 // The address under which the log has this one.
 uint64_t named(uint64_t address)
 {
-    if (address < atomic_load_explicit(&stacks_low, memory_order_relaxed) || address >= atomic_load_explicit(&stacks_high, memory_order_relaxed)) return address;
+    if (address < atomic_load_explicit(&stacks_low, memory_order_relaxed)) return address;
+    if (address >= atomic_load_explicit(&stacks_high, memory_order_relaxed)) return address;
     uint64_t page = address >> PAGE_BITS;
     unsigned i = hash(page) >> 50;
     for (uint64_t there; (there = atomic_load_explicit(&pages[i].page, memory_order_acquire)); i = (i + 1) % PAGES) {
