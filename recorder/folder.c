@@ -244,10 +244,11 @@ static bool new_run(void)
     atomic_store(&run->tasks, 1);
     folder_name(name, run->number, "");
     folder_name(index, run->number, "/index.swi");
-    bool made = mkdir(name, 0777) == 0;
-    if (!made && (errno != EEXIST || run->number || access(index, F_OK) == 0)) {
-        cannot(NULL, errno == EEXIST || access(index, F_OK) == 0 ? WHY_THERE : WHY_FILES);
-        say("%s can't be begun", name);
+    int error = mkdir(name, 0777) ? errno : 0;
+    // The first one may be there, if it isn't whole.
+    if (error && (error != EEXIST || run->number || access(index, F_OK) == 0)) {
+        cannot(NULL, error == EEXIST ? WHY_THERE : WHY_FILES);
+        say("%s: %s", name, error == EEXIST ? "it is there already and is left alone" : strerror(error));
         free(run);
         return false;
     }

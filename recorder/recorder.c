@@ -9,7 +9,7 @@
 
 pthread_mutex_t gate = PTHREAD_MUTEX_INITIALIZER;
 atomic_bool partial;
-static bool started, child;
+static bool found, started, child; // found: the runtime asked for the tool
 static atomic_bool over;
 static atomic_uint lost, told, notes; // bits: whys for good, whys of some folder, notes
 static pid_t process;
@@ -89,12 +89,9 @@ static int on_start(ompt_function_lookup_t look_up, int device, ompt_data_t *too
     atomic_store(&partial, getenv("SWORDREC_PARTIAL") != NULL);
     lines_start();
     reuse_start();
-    if (!folder_start()) {
-        say("nothing is recorded: the folder can't be begun");
-        return 0;
-    }
-    if (!teams_start((void *)look_up)) {
-        say("this OpenMP runtime doesn't tell what is needed: nothing is recorded");
+    found = true;
+    if (!folder_start() || !teams_start((void *)look_up)) {
+        say("nothing is recorded");
         return 0;
     }
     started = true;
@@ -116,7 +113,7 @@ static __attribute__((constructor(101))) void start(void)
 {
     cur = NULL;
     omp_get_max_threads();
-    if (!started) say("nothing is recorded: the OpenMP runtime started no tool");
+    if (!found) say("nothing is recorded: the OpenMP runtime started no tool");
 }
 
 // What skipped.h calls from a program or library in which swordcc found accesses that the compiler doesn't instrument.

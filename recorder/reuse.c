@@ -177,36 +177,46 @@ static void enter_pages(Thread *t)
     }
 }
 
-// Tells the others of this thread, and makes its table.
+// Makes what a thread needs to run lanes.
 bool enter_thread(void)
 {
-    pthread_attr_t attributes;
-    void *low;
-    size_t size;
     if (me) return true;
     Thread *t = calloc(1, sizeof *t);
     if (!t) return false;
     t->seen = mmap(NULL, SEEN * sizeof(Seen), PROT_READ | PROT_WRITE, MAP_PRIVATE | MAP_ANONYMOUS, -1, 0);
-    if (t->seen == MAP_FAILED || pthread_getattr_np(pthread_self(), &attributes)) {
+    if (t->seen == MAP_FAILED) {
         free(t);
         return false;
     }
-    bool known = !pthread_attr_getstack(&attributes, &low, &size);
-    pthread_attr_destroy(&attributes);
     close_gate();
     t->next = threads;
     threads = t;
-    if (known) {
-        t->low = (uint64_t)low;
-        t->high = t->low + size;
-        if (t->low < atomic_load(&stacks_low)) atomic_store(&stacks_low, t->low);
-        if (t->high > atomic_load(&stacks_high)) atomic_store(&stacks_high, t->high);
-        enter_pages(t);
-    }
-    if (!known || size > 1ul << STACK_BITS) cannot(NULL, WHY_STACKS);
     open_gate();
     me = t;
     return true;
+}
+
+// Finds this thread's stack and tells the others of it.
+static void enter_stack(void)
+{
+    pthread_attr_t attributes;
+    void *low = NULL;
+    size_t size = 0;
+    if (!pthread_getattr_np(pthread_self(), &attributes)) {
+        if (pthread_attr_getstack(&attributes, &low, &size)) size = 0;
+        pthread_attr_destroy(&attributes);
+    }
+    if (!size || size > 1ul << STACK_BITS) {
+        cannot(NULL, WHY_STACKS);
+        return;
+    }
+    close_gate();
+    me->low = (uint64_t)low;
+    me->high = me->low + size;
+    if (me->low < atomic_load(&stacks_low)) atomic_store(&stacks_low, me->low);
+    if (me->high > atomic_load(&stacks_high)) atomic_store(&stacks_high, me->high);
+    enter_pages(me);
+    open_gate();
 }
 
 // The thread ends: it runs no lane any more. Its Thread stays, since others may look at it.
@@ -232,6 +242,7 @@ void leave_thread(void)
 // Gives this thread's stack a name of its own, for the lane that it is now.
 void name_stack(void)
 {
+    if (!me->high) enter_stack();
     uint32_t name = atomic_fetch_add(&stack_names, 1) + 1;
     if (name >= 1u << NAME_BITS) cannot(NULL, WHY_STACKS);
     atomic_store_explicit(&me->name, name, memory_order_relaxed);
