@@ -1,12 +1,13 @@
 // What clang's -fsanitize=thread calls before each access, and memcpy, memmove and memset, which --wrap brings here.
 //
-// An access is left out if the thread's table still has one that stands for it: logged in the same interval of the same task, under the same mutexes, in
-// the same line, with the same first byte and size, and of the same kind, or a Write for a Read. A Read that is still in the block becomes the Write that
-// follows it. Both by the law `accesses_may_be_dropped`, whose interval lies between two barriers of the task, over forks and joins. The root's
-// accesses aren't logged at all, by `root_accesses_may_be_dropped`. Values are 0 and a site is a column, by `values_do_not_matter`.
+// An access is left out if the thread's table still has one that stands for it: logged in the same interval of the same task, under the same
+// mutexes, in the same line, with the same first byte and size, and of the same kind, or a Write for a Read. A Read that is still in the block
+// becomes the Write that follows it. Both by the law `accesses_may_be_dropped`, whose interval lies between two barriers of the task, over forks
+// and joins. The root's accesses aren't logged at all, by `root_accesses_may_be_dropped`. Values are 0 and a site is a column, by
+// `values_do_not_matter`.
 //
-// May assume: `cur` is the lane that this thread runs, or NULL in the root and within the runtime, or `foreign` in a thread that isn't OpenMP's. No signal
-// handler that is compiled so interrupts it.
+// May assume: `cur` is the lane that this thread runs, or NULL in the root and within the runtime, or `foreign` in a thread that isn't OpenMP's. No
+// signal handler that is compiled so interrupts it.
 #include "recorder.h"
 
 static Seen nothing[SEEN];

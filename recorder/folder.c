@@ -1,8 +1,9 @@
 // Folders: the logs of tasks, and the index that makes a folder whole (docs/FORMATS.md).
 //
-// A folder goes on in a new one, DIR.1, DIR.2 and so on, between two regions of the root, when it is large or has failed: by the law `run_may_be_split`
-// the pairs are the union of the folders'. A team of the root is cut at a barrier into two regions when a log or the folder grows long, by
-// `region_may_be_cut`. A folder gets its index, under another name first, when its last lane has left it. One in which something wasn't recorded gets none.
+// A folder goes on in a new one, DIR.1, DIR.2 and so on, between two regions of the root, when it is large or has failed: by the law
+// `run_may_be_split` the pairs are the union of the folders'. A team of the root is cut at a barrier into two regions when a log or the folder
+// grows long, by `region_may_be_cut`. A folder gets its index, under another name first, when its last lane has left it. One in which something
+// wasn't recorded gets none.
 //
 // A log is opened for each block that is written, and closed again: so a program that closes or reuses descriptors does no harm.
 //
@@ -243,10 +244,11 @@ static bool new_run(void)
     atomic_store(&run->tasks, 1);
     folder_name(name, run->number, "");
     folder_name(index, run->number, "/index.swi");
-    bool made = mkdir(name, 0777) == 0;
-    if (!made && (errno != EEXIST || run->number || access(index, F_OK) == 0)) {
-        cannot(NULL, errno == EEXIST || access(index, F_OK) == 0 ? WHY_THERE : WHY_FILES);
-        say("%s can't be begun", name);
+    int error = mkdir(name, 0777) ? errno : 0;
+    // The first one may be there, if it isn't whole.
+    if (error && (error != EEXIST || run->number || access(index, F_OK) == 0)) {
+        cannot(NULL, error == EEXIST ? WHY_THERE : WHY_FILES);
+        say("%s: %s", name, error == EEXIST ? "it is there already and is left alone" : strerror(error));
         free(run);
         return false;
     }
