@@ -17,6 +17,7 @@ enum {
     KEPT = 65536,         // records of a log that are kept for what isn't an access
     CUT = RECORDS / 4,    // records of a lane, and
     FILLED = 61440,       // tasks or intervals of a folder, from which on a team of the root is cut and a folder goes on in a new one
+    MANY_UNSEALED = 8,    // folders without an index, after which nothing more is recorded: they stay on the disk
     PATH = 4096,
 };
 
@@ -202,7 +203,7 @@ static void seal(Run *run)
         cannot(NULL, WHY_FILES);
         good = false;
     }
-    unsealed += !good;
+    if (!good && ++unsealed == MANY_UNSEALED) cannot(NULL, WHY_UNSEALED);
     if (good && ahead) waiting[waiting_count++] = run->number;
     all_tasks += atomic_load(&run->tasks);
     all_segments += atomic_load(&run->segments);
@@ -312,8 +313,8 @@ static Part *add_part(const Team *team, unsigned span)
         return NULL;
     }
     *part = (Part){.run = run, .number = node->regions, .span = span};
-    if (atomic_fetch_add(&run->tasks, span) + span > ROWS && above) cannot(above, WHY_MANY_ROWS);
-    else if (atomic_load(&run->tasks) > ROWS) atomic_fetch_or(&run->why, 1u << WHY_MANY_ROWS);
+    // Under the root there is always room: a folder that is so full goes on in a new one.
+    if (atomic_fetch_add(&run->tasks, span) + span > ROWS) cannot(above, WHY_MANY_ROWS);
     run->open += span;
     if (!above) run->lines[node->regions] = team->line;
     node->region[node->regions++] = part;

@@ -39,6 +39,7 @@ enum { RECORD = 24, HEADER = 8, BLOCK = 10922 * RECORD }; // bytes of a record, 
     WHY(FREED, "too much memory was freed between two barriers of the outermost team (SWORDREC_HOLD)") \
     WHY(LINES, "code whose line isn't known: compile all of it with recorder/swordcc (-g), and leave it uncompressed") \
     WHY(SKIPPED, "accesses that the compiler doesn't instrument, told when it compiled") \
+    WHY(UNSEALED, "8 folders have no index: after these nothing was recorded") \
     WHY(MEMORY, "out of memory")
 #define ONE_WHY(name, text) WHY_##name,
 enum { WHYS(ONE_WHY) WHYS_COUNT };

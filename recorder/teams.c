@@ -181,7 +181,6 @@ static void on_parallel_end(ompt_data_t *parallel, ompt_data_t *data, int flags,
     if (!team) return;
     team_now = team->outer;
     if (!is_foreign(cur)) cur = NULL;
-    if (team->above && team->first) team->above->pending |= NEW_SEGMENT;
     if (team->counted) {
         release_all();
         mutexes_forget();
