@@ -114,13 +114,10 @@ static inline __attribute__((always_inline)) void note(unsigned kind, unsigned s
     if (!t) return;
     uint64_t place = offset < text_length ? atomic_load_explicit(&places[offset], memory_order_relaxed) : 0;
     bool slow = !place || atomic_load_explicit(&stack_names, memory_order_relaxed);
-    if (size == 16) {
-        note_slowly(kind, 8, address, return_address);
-        note_slowly(kind, 8, address + 8, return_address);
-    } else if (__builtin_expect(slow, 0)) {
-        note_slowly(kind, size, address, return_address);
-    } else {
-        note_at(t, kind, size, address, place);
+    const unsigned part = size == 16 ? 8 : size; // 16 bytes are two accesses
+    for (unsigned from = 0; from < size; from += part) {
+        if (__builtin_expect(slow, 0)) note_slowly(kind, part, address + from, return_address);
+        else note_at(t, kind, part, address + from, place);
     }
 }
 

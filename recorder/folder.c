@@ -400,6 +400,7 @@ void folder_end(bool within)
     if (lost) say("%llu accesses aren't in the logs", (unsigned long long)lost);
     if (unsealed) say("%u of %u folders aren't recorded whole and have no index", unsealed, folders);
     else if (lost) say("the run isn't recorded whole, and what is missing may race");
+    if (folders > 1 && !ahead) say("%u folders, to be checked one by one: %s, and from %s.1 on", folders, folder, folder);
     if (getenv("SWORDREC_TELL"))
         say("folders %u tasks %llu records %llu segments %llu", folders, (unsigned long long)all_tasks, (unsigned long long)all_records,
             (unsigned long long)all_segments);

@@ -16,7 +16,7 @@
 // Kinds of records, and limits of the format (docs/FORMATS.md).
 enum { READ = 1, WRITE = 2, LOCK = 3, UNLOCK = 4, BARRIER = 5, REGION = 6, END = 8, UPDATE = 9 };
 enum { RECORDS = 4194304, ROWS = 65536, SEGMENTS = 65536, LANES = 64, DEPTH = 4, HELD = 8, MUTEXES = 65536 };
-enum { RECORD = 24, HEADER = 8, BLOCK = 10922 * RECORD }; // bytes of a record, of a log's header and of a task's block
+enum { RECORD = 24, HEADER = 8, BLOCK = 2730 * RECORD }; // bytes of a record, of a log's header and of a task's block
 
 // Why a folder gets no index.
 #define WHYS(WHY) \
