@@ -98,6 +98,7 @@ static __attribute__((noinline)) void note_slowly(unsigned kind, unsigned size, 
 {
     Task *t = cur;
     uint64_t place = place_of(return_address);
+    if (place == UNKNOWN) cannot(NULL, WHY_LINES);
     if (atomic_load_explicit(&stack_names, memory_order_relaxed)) address = named(address);
     switch (size) { // so that it is known where note_at is compiled
     case 1: note_at(t, kind, 1, address, place); break;

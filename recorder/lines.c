@@ -390,10 +390,7 @@ static uint64_t ask_place(uint64_t address)
 {
     const Module *m = module_of((const void *)address);
     const Row *row = m ? row_of(m, address - m->base) : NULL;
-    if (!row) {
-        cannot(NULL, WHY_LINES);
-        return 1;
-    }
+    if (!row) return UNKNOWN;
     file_used[row->file] = true;
     return (uint64_t)row->column << 32 | (row->line + (uint64_t)MILLION * row->file);
 }

@@ -177,6 +177,9 @@ extern uint64_t text_low, text_length; // of the program's own code
 extern _Atomic uint64_t *places;       // by address in it; 0: not asked yet
 void lines_start(void);
 void lines_tell(void);
+// Of code whose line isn't known: line 1. No access may have it, but a mutex, a fork or a barrier, whose line plays no part in races: now and then the
+// runtime gives a place within itself.
+enum { UNKNOWN = 1 };
 uint64_t find_place(uint64_t return_address);
 static inline uint64_t place_of(const void *return_address)
 {
