@@ -1,12 +1,13 @@
 // What clang's -fsanitize=thread calls before each access, and memcpy, memmove and memset, which --wrap brings here.
 //
-// An access is left out if the thread's table still has one that stands for it: logged in the same interval of the same task, under the same mutexes, in
-// the same line, with the same first byte and size, and of the same kind, or a Write for a Read. A Read that is still in the block becomes the Write that
-// follows it. Both by the law `accesses_may_be_dropped`, whose interval lies between two barriers of the task, over forks and joins. The root's
-// accesses aren't logged at all, by `root_accesses_may_be_dropped`. Values are 0 and a site is a column, by `values_do_not_matter`.
+// An access is left out if the thread's table still has one that stands for it: logged in the same interval of the same task, under the same
+// mutexes, in the same line, with the same first byte and size, and of the same kind, or a Write for a Read. A Read that is still in the block
+// becomes the Write that follows it. Both by the law `accesses_may_be_dropped`, whose interval lies between two barriers of the task, over forks
+// and joins. The root's accesses aren't logged at all, by `root_accesses_may_be_dropped`. Values are 0 and a site is a column, by
+// `values_do_not_matter`.
 //
-// May assume: `cur` is the lane that this thread runs, or NULL in the root and within the runtime, or `foreign` in a thread that isn't OpenMP's. No signal
-// handler that is compiled so interrupts it.
+// May assume: `cur` is the lane that this thread runs, or NULL in the root and within the runtime, or `foreign` in a thread that isn't OpenMP's. No
+// signal handler that is compiled so interrupts it.
 #include "recorder.h"
 
 static Seen nothing[SEEN];
@@ -97,6 +98,7 @@ static __attribute__((noinline)) void note_slowly(unsigned kind, unsigned size, 
 {
     Task *t = cur;
     uint64_t place = place_of(return_address);
+    if (place == UNKNOWN) cannot(NULL, WHY_LINES);
     if (atomic_load_explicit(&stack_names, memory_order_relaxed)) address = named(address);
     switch (size) { // so that it is known where note_at is compiled
     case 1: note_at(t, kind, 1, address, place); break;
@@ -113,13 +115,10 @@ static inline __attribute__((always_inline)) void note(unsigned kind, unsigned s
     if (!t) return;
     uint64_t place = offset < text_length ? atomic_load_explicit(&places[offset], memory_order_relaxed) : 0;
     bool slow = !place || atomic_load_explicit(&stack_names, memory_order_relaxed);
-    if (size == 16) {
-        note_slowly(kind, 8, address, return_address);
-        note_slowly(kind, 8, address + 8, return_address);
-    } else if (__builtin_expect(slow, 0)) {
-        note_slowly(kind, size, address, return_address);
-    } else {
-        note_at(t, kind, size, address, place);
+    const unsigned part = size == 16 ? 8 : size; // 16 bytes are two accesses
+    for (unsigned from = 0; from < size; from += part) {
+        if (__builtin_expect(slow, 0)) note_slowly(kind, part, address + from, return_address);
+        else note_at(t, kind, part, address + from, place);
     }
 }
 

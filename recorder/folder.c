@@ -1,8 +1,9 @@
 // Folders: the logs of tasks, and the index that makes a folder whole (docs/FORMATS.md).
 //
-// A folder goes on in a new one, DIR.1, DIR.2 and so on, between two regions of the root, when it is large or has failed: by the law `run_may_be_split`
-// the pairs are the union of the folders'. A team of the root is cut at a barrier into two regions when a log or the folder grows long, by
-// `region_may_be_cut`. A folder gets its index, under another name first, when its last lane has left it. One in which something wasn't recorded gets none.
+// A folder goes on in a new one, DIR.1, DIR.2 and so on, between two regions of the root, when it is large or has failed: by the law
+// `run_may_be_split` the pairs are the union of the folders'. A team of the root is cut at a barrier into two regions when a log or the folder
+// grows long, by `region_may_be_cut`. A folder gets its index, under another name first, when its last lane has left it. One in which something
+// wasn't recorded gets none.
 //
 // A log is opened for each block that is written, and closed again: so a program that closes or reuses descriptors does no harm.
 //
@@ -16,6 +17,7 @@ enum {
     KEPT = 65536,         // records of a log that are kept for what isn't an access
     CUT = RECORDS / 4,    // records of a lane, and
     FILLED = 61440,       // tasks or intervals of a folder, from which on a team of the root is cut and a folder goes on in a new one
+    MANY_UNSEALED = 8,    // folders without an index, after which nothing more is recorded: they stay on the disk
     PATH = 4096,
 };
 
@@ -201,7 +203,7 @@ static void seal(Run *run)
         cannot(NULL, WHY_FILES);
         good = false;
     }
-    unsealed += !good;
+    if (!good && ++unsealed == MANY_UNSEALED) cannot(NULL, WHY_UNSEALED);
     if (good && ahead) waiting[waiting_count++] = run->number;
     all_tasks += atomic_load(&run->tasks);
     all_segments += atomic_load(&run->segments);
@@ -243,10 +245,11 @@ static bool new_run(void)
     atomic_store(&run->tasks, 1);
     folder_name(name, run->number, "");
     folder_name(index, run->number, "/index.swi");
-    bool made = mkdir(name, 0777) == 0;
-    if (!made && (errno != EEXIST || run->number || access(index, F_OK) == 0)) {
-        cannot(NULL, errno == EEXIST || access(index, F_OK) == 0 ? WHY_THERE : WHY_FILES);
-        say("%s can't be begun", name);
+    int error = mkdir(name, 0777) ? errno : 0;
+    // The first one may be there, if it isn't whole.
+    if (error && (error != EEXIST || run->number || access(index, F_OK) == 0)) {
+        cannot(NULL, error == EEXIST ? WHY_THERE : WHY_FILES);
+        say("%s: %s", name, error == EEXIST ? "it is there already and is left alone" : strerror(error));
         free(run);
         return false;
     }
@@ -310,8 +313,8 @@ static Part *add_part(const Team *team, unsigned span)
         return NULL;
     }
     *part = (Part){.run = run, .number = node->regions, .span = span};
-    if (atomic_fetch_add(&run->tasks, span) + span > ROWS && above) cannot(above, WHY_MANY_ROWS);
-    else if (atomic_load(&run->tasks) > ROWS) atomic_fetch_or(&run->why, 1u << WHY_MANY_ROWS);
+    // Under the root there is always room: a folder that is so full goes on in a new one.
+    if (atomic_fetch_add(&run->tasks, span) + span > ROWS) cannot(above, WHY_MANY_ROWS);
     run->open += span;
     if (!above) run->lines[node->regions] = team->line;
     node->region[node->regions++] = part;
@@ -397,6 +400,7 @@ void folder_end(bool within)
     if (lost) say("%llu accesses aren't in the logs", (unsigned long long)lost);
     if (unsealed) say("%u of %u folders aren't recorded whole and have no index", unsealed, folders);
     else if (lost) say("the run isn't recorded whole, and what is missing may race");
+    if (folders > 1 && !ahead) say("%u folders, to be checked one by one: %s, and from %s.1 on", folders, folder, folder);
     if (getenv("SWORDREC_TELL"))
         say("folders %u tasks %llu records %llu segments %llu", folders, (unsigned long long)all_tasks, (unsigned long long)all_records,
             (unsigned long long)all_segments);

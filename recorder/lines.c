@@ -1,9 +1,9 @@
-// Lines: from the return address of a call of the instrumentation to the line and column of the access, by the line tables that -g leaves in the program
-// and its shared libraries (DWARF 2 to 5, .debug_line).
+// Lines: from the return address of a call of the instrumentation to the line and column of the access, by the line tables that -g leaves in the
+// program and its shared libraries (DWARF 5, .debug_line, which swordcc asks for).
 //
-// A place is found once for each address and kept: for the program's own text in an array with 8 bytes for each byte of it (only pages with calls are
-// touched), for libraries in a table. Code without a line of its own (line 0: merged or moved by the optimizer) has that of what stands before it.
-// Of the first file a line is itself, and of file k it is k million more, so that two files' lines differ.
+// A place is found once for each address and kept: for the program's own text in an array with 8 bytes for each byte of it (only pages with calls
+// are touched), for libraries in a table. Code without a line of its own (line 0: merged or moved by the optimizer) has that of what stands before
+// it. Of the first file a line is itself, and of file k it is k million more, so that two files' lines differ.
 //
 // May assume: a library that was loaded stays where it is. It doesn't trust what the files hold: every read is checked.
 #include "recorder.h"
@@ -163,7 +163,7 @@ static void add_directory(Names *names, const char *name)
     if (names->directories < BY_FORM) names->directory[names->directories++] = name;
 }
 
-// One table of version 5's header: of directories or of files, each entry with its own forms.
+// A table of the header, of directories or of files, which tells the forms of its entries.
 static void read_entries(Bytes *b, const Sections *s, unsigned offset_size, Names *names, bool is_files)
 {
     struct {
@@ -200,25 +200,8 @@ static void read_entries(Bytes *b, const Sections *s, unsigned offset_size, Name
     }
 }
 
-// Versions 2 to 4: files and directories are numbered from 1, and directory 0 isn't told.
-static void read_lists(Bytes *b, Names *names)
-{
-    const char *name;
-    add_directory(names, "");
-    while (!b->bad && *(name = text(b))) add_directory(names, name);
-    bool first = true;
-    while (!b->bad && *(name = text(b))) {
-        uint64_t directory = leb(b, false);
-        leb(b, false);
-        leb(b, false);
-        if (first) add_file(names, directory, name);
-        first = false;
-        add_file(names, directory, name);
-    }
-}
-
 typedef struct {
-    unsigned version, step, range, opcodes;
+    unsigned step, range, opcodes;
     int base;
     unsigned char operands[256];
 } Machine;
@@ -299,25 +282,20 @@ static bool read_unit(Module *m, Bytes *section, const Sections *s)
     unsigned offset_size = length == 0xffffffff ? 8 : 4;
     if (offset_size == 8) length = number(section, 8);
     Bytes unit = take(section, length);
-    Machine how = {.version = number(&unit, 2)};
-    if (section->bad || how.version < 2 || how.version > 5) return !section->bad; // another unit may be read
-    if (how.version == 5) number(&unit, 2);
+    Machine how = {0};
+    if (section->bad || number(&unit, 2) != 5) return !section->bad; // an older one is left out
+    number(&unit, 2);
     Bytes head = take(&unit, number(&unit, offset_size));
     how.step = number(&head, 1);
-    if (how.version >= 4) number(&head, 1);
-    number(&head, 1);
+    number(&head, 2);
     how.base = (signed char)number(&head, 1);
     how.range = number(&head, 1);
     how.opcodes = number(&head, 1);
     for (unsigned i = 1; i < how.opcodes; i++) how.operands[i] = number(&head, 1);
     Names *names = calloc(1, sizeof *names);
     if (!names) return false;
-    if (how.version == 5) {
-        read_entries(&head, s, offset_size, names, false);
-        read_entries(&head, s, offset_size, names, true);
-    } else {
-        read_lists(&head, names);
-    }
+    read_entries(&head, s, offset_size, names, false);
+    read_entries(&head, s, offset_size, names, true);
     bool good = !head.bad && !unit.bad && !names->bad && how.range && how.opcodes;
     good = good && run_program(m, &unit, &how, names);
     free(names->file);
@@ -412,10 +390,7 @@ static uint64_t ask_place(uint64_t address)
 {
     const Module *m = module_of((const void *)address);
     const Row *row = m ? row_of(m, address - m->base) : NULL;
-    if (!row) {
-        cannot(NULL, WHY_LINES);
-        return 1;
-    }
+    if (!row) return UNKNOWN;
     file_used[row->file] = true;
     return (uint64_t)row->column << 32 | (row->line + (uint64_t)MILLION * row->file);
 }

@@ -1,8 +1,9 @@
-// Mutexes: critical sections, locks and `ordered` as the runtime tells of them, a reduction's section, and mutexes of pthreads that --wrap brings here.
+// Mutexes: critical sections, locks and `ordered` as the runtime tells of them, a reduction's section, and mutexes of pthreads that --wrap brings
+// here.
 //
-// A Lock is logged with the first access under it, and the log has mutexes in an order of its own: so those that aren't released in reverse order, or are
-// held at a barrier or fork, are unlocked and locked again, with no access in between (`locks_may_move`: at each access the same set is held). Of more than
-// 8 the first 8 are logged, and that is told.
+// A Lock is logged with the first access under it, and the log has mutexes in an order of its own: so those that aren't released in reverse order,
+// or are held at a barrier or fork, are unlocked and locked again, with no access in between (`locks_may_move`: at each access the same set is
+// held). Of more than 8 the first 8 are logged, and that is told.
 //
 // Mutexes are numbered as they are first seen, anew in each region of the root. One that was destroyed has a new number when it is seen again.
 //

@@ -9,7 +9,7 @@
 
 pthread_mutex_t gate = PTHREAD_MUTEX_INITIALIZER;
 atomic_bool partial;
-static bool started, child;
+static bool found, started, child; // found: the runtime asked for the tool
 static atomic_bool over;
 static atomic_uint lost, told, notes; // bits: whys for good, whys of some folder, notes
 static pid_t process;
@@ -52,7 +52,7 @@ uint64_t setting(const char *name, uint64_t least, uint64_t most, uint64_t other
     errno = 0;
     unsigned long long value = strtoull(text, &end, 10);
     if (!errno && !*end && text[0] != '-' && value >= least && value <= most) return value;
-    say("%s isn't a number from %llu to %llu, so it is %llu", name, (unsigned long long)least, (unsigned long long)most, (unsigned long long)otherwise);
+    say("%s isn't a number from %llu to %llu", name, (unsigned long long)least, (unsigned long long)most);
     return otherwise;
 }
 
@@ -89,12 +89,9 @@ static int on_start(ompt_function_lookup_t look_up, int device, ompt_data_t *too
     atomic_store(&partial, getenv("SWORDREC_PARTIAL") != NULL);
     lines_start();
     reuse_start();
-    if (!folder_start()) {
-        say("nothing is recorded: the folder can't be begun");
-        return 0;
-    }
-    if (!teams_start((void *)look_up)) {
-        say("this OpenMP runtime doesn't tell what is needed: nothing is recorded");
+    found = true;
+    if (!folder_start() || !teams_start((void *)look_up)) {
+        say("nothing is recorded");
         return 0;
     }
     started = true;
@@ -110,12 +107,13 @@ ompt_start_tool_result_t *ompt_start_tool(unsigned version, const char *runtime)
     return &result;
 }
 
-// Starts the runtime before threads are there: libomp 14 crashes where a tool asks for mutexes and the first call is a critical section of another thread.
+// Starts the runtime before threads are there: libomp 14 crashes where a tool asks for mutexes and its first call is a critical section in another
+// thread.
 static __attribute__((constructor(101))) void start(void)
 {
     cur = NULL;
     omp_get_max_threads();
-    if (!started) say("nothing is recorded: the OpenMP runtime started no tool");
+    if (!found) say("nothing is recorded: the OpenMP runtime started no tool");
 }
 
 // What skipped.h calls from a program or library in which swordcc found accesses that the compiler doesn't instrument.

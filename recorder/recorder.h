@@ -16,7 +16,7 @@
 // Kinds of records, and limits of the format (docs/FORMATS.md).
 enum { READ = 1, WRITE = 2, LOCK = 3, UNLOCK = 4, BARRIER = 5, REGION = 6, END = 8, UPDATE = 9 };
 enum { RECORDS = 4194304, ROWS = 65536, SEGMENTS = 65536, LANES = 64, DEPTH = 4, HELD = 8, MUTEXES = 65536 };
-enum { RECORD = 24, HEADER = 8, BLOCK = 10922 * RECORD }; // bytes of a record, of a log's header and of a task's block
+enum { RECORD = 24, HEADER = 8, BLOCK = 2730 * RECORD }; // bytes of a record, of a log's header and of a task's block
 
 // Why a folder gets no index.
 #define WHYS(WHY) \
@@ -39,6 +39,7 @@ enum { RECORD = 24, HEADER = 8, BLOCK = 10922 * RECORD }; // bytes of a record, 
     WHY(FREED, "too much memory was freed between two barriers of the outermost team (SWORDREC_HOLD)") \
     WHY(LINES, "code whose line isn't known: compile all of it with recorder/swordcc (-g), and leave it uncompressed") \
     WHY(SKIPPED, "accesses that the compiler doesn't instrument, told when it compiled") \
+    WHY(UNSEALED, "8 folders have no index: after these nothing was recorded") \
     WHY(MEMORY, "out of memory")
 #define ONE_WHY(name, text) WHY_##name,
 enum { WHYS(ONE_WHY) WHYS_COUNT };
@@ -176,6 +177,9 @@ extern uint64_t text_low, text_length; // of the program's own code
 extern _Atomic uint64_t *places;       // by address in it; 0: not asked yet
 void lines_start(void);
 void lines_tell(void);
+// Of code whose line isn't known: line 1. No access may have it, but a mutex, a fork or a barrier, whose line plays no part in races: now and then the
+// runtime gives a place within itself.
+enum { UNKNOWN = 1 };
 uint64_t find_place(uint64_t return_address);
 static inline uint64_t place_of(const void *return_address)
 {

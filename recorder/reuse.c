@@ -1,14 +1,15 @@
-// Memory that is used again while a region of the root runs, and threads, whose stacks are such memory. Two lanes that use the same memory for different
-// things, one after the other, don't race; so nothing may be at one address in the logs twice, unless barriers or joins of the root's team lie between.
+// Memory that is used again while a region of the root runs, and threads, whose stacks are such memory. Two lanes that use the same memory for
+// different things, one after the other, don't race; so nothing may be at one address in the logs twice, unless barriers or joins of the root's
+// team lie between.
 //
-// - What is freed or unmapped in a region is held back until the lane's thread has passed a barrier of the root's team, or until the region ends. Of large
-//   blocks and of mappings only the addresses are: their memory is given back at once. realloc moves.
-// - In a team of the root a lane is one thread, whose stack is in one order with the lane. Of a nested team the lanes from 1 on are threads of a pool, which
-//   go from team to team: what is in the stack of such a thread (thread-local variables lie there, too) is logged with an address from 2^47 on,
-//   other ones for each lane that the thread was, also where other lanes access it.
+// - What is freed or unmapped in a region is held back until the lane's thread has passed a barrier of the root's team, or until the region ends.
+//   Of large blocks and of mappings only the addresses are: their memory is given back at once. realloc moves.
+// - In a team of the root a lane is one thread, whose stack is in one order with the lane. Of a nested team the lanes from 1 on are threads of a
+//   pool, which go from team to team: what is in the stack of such a thread (thread-local variables lie there, too) is logged with an address from
+//   2^47 on, other ones for each lane that the thread was, also where other lanes access it.
 //
-// May assume: --wrap brings free, realloc, reallocarray, munmap and mmap of the program here, and only the program's; user addresses are below 2^47; a page
-// isn't put by MAP_FIXED where a program that never did so before has just unmapped one.
+// May assume: --wrap brings free, realloc, reallocarray, munmap and mmap of the program here, and only the program's; user addresses are below
+// 2^47; a page isn't put by MAP_FIXED where a program that never did so before has just unmapped one.
 #include "recorder.h"
 #include <malloc.h>
 
@@ -176,36 +177,46 @@ static void enter_pages(Thread *t)
     }
 }
 
-// Tells the others of this thread, and makes its table.
+// Makes what a thread needs to run lanes.
 bool enter_thread(void)
 {
-    pthread_attr_t attributes;
-    void *low;
-    size_t size;
     if (me) return true;
     Thread *t = calloc(1, sizeof *t);
     if (!t) return false;
     t->seen = mmap(NULL, SEEN * sizeof(Seen), PROT_READ | PROT_WRITE, MAP_PRIVATE | MAP_ANONYMOUS, -1, 0);
-    if (t->seen == MAP_FAILED || pthread_getattr_np(pthread_self(), &attributes)) {
+    if (t->seen == MAP_FAILED) {
         free(t);
         return false;
     }
-    bool known = !pthread_attr_getstack(&attributes, &low, &size);
-    pthread_attr_destroy(&attributes);
     close_gate();
     t->next = threads;
     threads = t;
-    if (known) {
-        t->low = (uint64_t)low;
-        t->high = t->low + size;
-        if (t->low < atomic_load(&stacks_low)) atomic_store(&stacks_low, t->low);
-        if (t->high > atomic_load(&stacks_high)) atomic_store(&stacks_high, t->high);
-        enter_pages(t);
-    }
-    if (!known || size > 1ul << STACK_BITS) cannot(NULL, WHY_STACKS);
     open_gate();
     me = t;
     return true;
+}
+
+// Finds this thread's stack and tells the others of it.
+static void enter_stack(void)
+{
+    pthread_attr_t attributes;
+    void *low = NULL;
+    size_t size = 0;
+    if (!pthread_getattr_np(pthread_self(), &attributes)) {
+        if (pthread_attr_getstack(&attributes, &low, &size)) size = 0;
+        pthread_attr_destroy(&attributes);
+    }
+    if (!size || size > 1ul << STACK_BITS) {
+        cannot(NULL, WHY_STACKS);
+        return;
+    }
+    close_gate();
+    me->low = (uint64_t)low;
+    me->high = me->low + size;
+    if (me->low < atomic_load(&stacks_low)) atomic_store(&stacks_low, me->low);
+    if (me->high > atomic_load(&stacks_high)) atomic_store(&stacks_high, me->high);
+    enter_pages(me);
+    open_gate();
 }
 
 // The thread ends: it runs no lane any more. Its Thread stays, since others may look at it.
@@ -231,6 +242,7 @@ void leave_thread(void)
 // Gives this thread's stack a name of its own, for the lane that it is now.
 void name_stack(void)
 {
+    if (!me->high) enter_stack();
     uint32_t name = atomic_fetch_add(&stack_names, 1) + 1;
     if (name >= 1u << NAME_BITS) cannot(NULL, WHY_STACKS);
     atomic_store_explicit(&me->name, name, memory_order_relaxed);
@@ -239,7 +251,8 @@ void name_stack(void)
 // The address under which the log has this one.
 uint64_t named(uint64_t address)
 {
-    if (address < atomic_load_explicit(&stacks_low, memory_order_relaxed) || address >= atomic_load_explicit(&stacks_high, memory_order_relaxed)) return address;
+    if (address < atomic_load_explicit(&stacks_low, memory_order_relaxed)) return address;
+    if (address >= atomic_load_explicit(&stacks_high, memory_order_relaxed)) return address;
     uint64_t page = address >> PAGE_BITS;
     unsigned i = hash(page) >> 50;
     for (uint64_t there; (there = atomic_load_explicit(&pages[i].page, memory_order_acquire)); i = (i + 1) % PAGES) {

@@ -1,12 +1,14 @@
 // Teams: what the OpenMP runtime tells of forks, lanes, barriers and joins (OMPT, OpenMP 5.2, section 19).
 //
-// A region of one lane isn't logged: its accesses are its parent's. Within a barrier nothing is logged, since only the runtime works there (a reduction's
-// tree). A team of the root begins a new region at a barrier when a log or the folder has grown long: by `region_may_be_cut`, and with `locks_may_move` no
-// mutex is held there in the log. The lanes agree on it, since each tells its wish before the barrier and looks at all wishes after it.
+// A region of one lane isn't logged: its accesses are its parent's. Within a barrier nothing is logged, since only the runtime works there (a
+// reduction's tree). A team of the root begins a new region at a barrier when a log or the folder has grown long: by `region_may_be_cut`, and with
+// `locks_may_move` no mutex is held there in the log. The lanes agree on it, since each tells its wish before the barrier and looks at all wishes
+// after it.
 //
-// May assume of libomp 14: a team's true number of lanes is known only when its lanes begin; its join is the barrier without a return address, or with the
-// region's. What comes after it, of a lane or of the team, may come so late that the data it is given are another team's by then: so each thread keeps its own
-// list of teams and of lanes, and looks only whether a task's data are its own lane's. All callbacks of a lane come from the lane's thread.
+// May assume of libomp 14: a team's true number of lanes is known only when its lanes begin; its join is the barrier without a return address, or
+// with the region's. What comes after it, of a lane or of the team, may come so late that the data it is given are another team's by then: so each
+// thread keeps its own list of teams and of lanes, and looks only whether a task's data are its own lane's. All callbacks of a lane come from the
+// lane's thread.
 #include "recorder.h"
 #include <omp-tools.h>
 
@@ -179,7 +181,6 @@ static void on_parallel_end(ompt_data_t *parallel, ompt_data_t *data, int flags,
     if (!team) return;
     team_now = team->outer;
     if (!is_foreign(cur)) cur = NULL;
-    if (team->above && team->first) team->above->pending |= NEW_SEGMENT;
     if (team->counted) {
         release_all();
         mutexes_forget();

@@ -61,10 +61,14 @@ class Tools:
         subprocess.run(words, check=True, cwd=self.place)
 
     def races(self, folders):
+        """How many pairs all folders have, or what `check` says of one that isn't whole."""
         found = 0
         for folder in folders:
             text = output([self.sword, "check", folder, "4"], self.place)
-            found += int(re.search(r"^races (\d+)$", text, re.M)[1])
+            told = re.search(r"^races (\d+)$", text, re.M)
+            if not told:
+                return text.strip()
+            found += int(told[1])
         return found
 
     def kernel(self, name, race):
