@@ -1,7 +1,7 @@
 #!/usr/bin/env python3
 """Counts the definitions that a reader of each clause of the top call has to believe: all those of crates/*/specs that it reaches, and their files and lines.
 
-usage: definitions.py [CLAUSE ..]     the table that docs/PROVED.md shows; of each clause that is named, also the files and what they hold of it
+usage: definitions.py [CLAUSE ..]     a table of all clauses; of each clause that is named, also the files and what they hold of it
 
 A definition is a block of a file up to the next empty line, with its comment. It reaches those that it names. Left out are the toolchain's own, and the
 Rust types that a definition reads: these are only counted.
