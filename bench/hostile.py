@@ -12,6 +12,8 @@ import sys
 import tempfile
 import time
 
+from writer import BARRIER, END, REGION, WRITE, put, record, row
+
 KERNEL = """array a i64 8
 main {
     parallel 2 { a[0] = tid }
@@ -248,6 +250,56 @@ def folders(cases):
         cases.due(f"{command} into a folder that has an index", [command, cases.path("kernel"), good, "24"], 9, "index exists\n", [good])
 
 
+def claims(cases):
+    """Folders that claim much, by each number of workers: they are refused where one worker refuses them, in as little time and memory."""
+    write_at = lambda place: record(WRITE, 3, 8, 0, 4096 + 8 * place)
+
+    def folder(name, regions, lane):
+        """A root that forks regions of 64 lanes with this log each, which are one file."""
+        root = [record(REGION, 2, value=64)] * regions + [record(END, 9)]
+        tasks = [([(region, number, 64)], lane) for region in range(regions) for number in range(64)]
+        place = cases.path(name)
+        put(place, [([], root), ([(0, 0, 64)], lane)])
+        for path, _ in tasks[1:]:
+            os.link(os.path.join(place, "t-0.0.swl"), os.path.join(place, f"t-{path[0][0]}.{path[0][1]}.swl"))
+        with open(os.path.join(place, "index.swi"), "wb") as index:
+            index.write(b"SWIDX002" + row([], root) + b"".join(row(path, records) for path, records in tasks))
+        return place
+
+    def alter(place, name, change):
+        """Gives a log of the folder a file of its own, with another content."""
+        path = os.path.join(place, name)
+        with open(path, "rb") as log:
+            content = log.read()
+        os.unlink(path)
+        write(path, change(content))
+
+    def told(place, records):
+        """Rows that all tell so many records, but the root's."""
+        path = os.path.join(place, "index.swi")
+        with open(path, "rb") as index:
+            content = index.read()
+        rows = [content[at:at + 48] for at in range(8, len(content), 48)]
+        write(path, content[:8] + rows[0] + b"".join(one[:40] + records.to_bytes(8, "big") for one in rows[1:]))
+
+    intervals = folder("intervals", 1, [write_at(0), record(BARRIER, 4)] * 65536 + [record(END, 9)])
+    alter(intervals, "t-0.1.swl", lambda content: content[:9] + bytes([3]) + content[10:])
+    full = folder("full", 1, [write_at(0), record(BARRIER, 4)] * 65536 + [write_at(0), record(END, 9)])
+    short = folder("short", 1, [write_at(0), write_at(1)])
+    told(short, 4194304)
+    many = folder("many", 200, [write_at(0), record(END, 9)])
+    told(many, 16384)
+    cut = folder("cut", 200, [write_at(0), write_at(1)])
+    told(cut, 16384)
+    for workers in [1, 2, 4, 64]:
+        by = lambda what, place, said: cases.due(f"check of {what} by {workers}", ["check", place, str(workers)], 4, said, [place], 3, 150)
+        by("64 logs of 65,536 intervals each", intervals, "bad log t-0.1.swl record 1: Size\n")
+        by("64 logs of 65,537 intervals each", full, "too many segments at t-0.0.swl record 131073\n")
+        by("logs of two records that claim 4,194,304", short, "bad log t-0.0.swl record 3: Cut\n")
+        by("200 regions whose logs end before what they claim", many, "bad log t-0.0.swl record 2: EndEarly\n")
+        by("200 regions whose logs are cut", cut, "bad log t-0.0.swl record 3: Cut\n")
+
+
 def main():
     sword = os.path.abspath(sys.argv[1])
     with tempfile.TemporaryDirectory(dir="/dev/shm" if os.path.isdir("/dev/shm") else None) as place:
@@ -259,6 +311,7 @@ def main():
         arguments(cases)
         kernels(cases)
         folders(cases)
+        claims(cases)
         print(f"{cases.count} cases, {cases.wrong} wrong")
         return 1 if cases.wrong else 0
 

@@ -313,7 +313,7 @@ def test_faults(place):
             status, _, beside = place.ask(*words, stdout=full)
             is_right(status == 7 and "a write failed" in beside, f"7, {words}: {status} {beside}")
     terms = place.file("terms.kernel", f"array a i64 2\nmain {{ parallel 2 {{ a[tid] = 1{'+1' * 31_999} }} }}\n")
-    for limit in ("unlimited", "1024"):
+    for limit in ("unlimited", "256"):
         given = ["-c", f'ulimit -S -s {limit}; exec "$@"', "sh", f"{place.root}/sword", "run", terms, f"{place.room}/terms{limit}", "4096"]
         is_right(place.ask(*given, script="/bin/sh")[:2] == (0, "tasks 3\nrecords 6\nsum a 64000\n"), f"a long expression, stacks of {limit}")
     long = place.file("long.kernel", "array a i64 1\nmain { loop k in 0 .. 2000 { a[0] = k } }\n")

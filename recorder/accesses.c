@@ -14,16 +14,6 @@ static Seen nothing[SEEN];
 static Task foreign = {.seen = nothing, .pending = FOREIGN};
 __thread Task *cur = &foreign;
 
-static inline uint64_t head_of(unsigned kind, unsigned size, uint64_t place) { return (uint64_t)kind << 56 | (uint64_t)size << 48 | place; }
-
-static inline void spell(unsigned char *to, uint64_t head, uint64_t address)
-{
-    uint64_t *word = (uint64_t *)to;
-    word[0] = __builtin_bswap64(head);
-    word[1] = __builtin_bswap64(address);
-    word[2] = 0;
-}
-
 static void add(Task *t, Seen *seen, uint64_t what, uint64_t when, uint64_t address, uint64_t head);
 
 // Does what must come before the next access, and then adds it, if it is logged.
@@ -40,57 +30,66 @@ static __attribute__((noinline)) void prepare(Task *t, Seen *seen, uint64_t what
     else t->lost++;
 }
 
+static inline bool is_of(const Seen *seen, uint64_t what, uint64_t when) { return seen->what == what && seen->when == when; }
+
+// The bits that stand for an access of the kind.
+static inline uint64_t logged(const Seen *seen, unsigned kind)
+{
+    return kind == READ ? seen->reads | seen->writes : kind == WRITE ? seen->writes : seen->reads;
+}
+
 static inline void put(Task *t, uint64_t head, uint64_t address)
 {
-    spell(t->at, head, address);
+    spell(t->at, head, address, 0);
     t->at += RECORD;
 }
 
 // Logs a Write where the table has the Read that it stands for: that one becomes the Write, if it is one of the last records.
-static __attribute__((noinline)) void add_over_read(Task *t, uint64_t address, uint64_t head)
+static void add_over_read(Task *t, uint64_t address, uint64_t head)
 {
     const uint64_t kind_and_site = 0xff00ffff00000000ull;
     for (unsigned char *at = t->at; at > t->since && at > t->at - 4 * RECORD;) {
         at -= RECORD;
         uint64_t *word = (uint64_t *)at, old = __builtin_bswap64(word[0]);
         if (word[1] == __builtin_bswap64(address) && old >> 56 == READ && !((old ^ head) & ~kind_and_site)) {
-            spell(at, head, address);
+            spell(at, head, address, 0);
             return;
         }
     }
     put(t, head, address);
 }
 
-// Logs what the table doesn't have.
+// Logs what the first place of its set doesn't have, and brings its own there.
 static __attribute__((noinline)) void add(Task *t, Seen *seen, uint64_t what, uint64_t when, uint64_t address, uint64_t head)
 {
-    uint64_t bit = 1ull << (address & 63);
+    unsigned kind = head >> 56;
+    uint64_t bit = 1ull << (address >> (what >> 3 & 3) & 63);
     if (t->pending || t->at >= t->end) {
         prepare(t, seen, what, when, address, head);
         return;
     }
-    if (seen->what != what || seen->when != when) *seen = (Seen){what, when, 0, 0};
-    if (head >> 56 != WRITE) {
-        seen->reads |= bit;
-    } else {
-        seen->writes |= bit;
-        if (seen->reads & bit) {
-            add_over_read(t, address, head);
-            return;
-        }
+    if (!is_of(seen, what, when)) {
+        Seen older = seen[1];
+        seen[1] = seen[0];
+        seen[0] = is_of(&older, what, when) ? older : (Seen){what, when, 0, 0};
+        if (logged(seen, kind) & bit) return;
     }
-    put(t, head, address);
+    bool was_read = seen->reads & bit;
+    if (kind == WRITE) seen->writes |= bit;
+    else seen->reads |= bit;
+    if (kind == WRITE && was_read) add_over_read(t, address, head);
+    else put(t, head, address);
 }
 
 // An access of 1, 2, 4 or 8 bytes.
 static inline __attribute__((always_inline)) void note_at(Task *t, unsigned kind, unsigned size, uint64_t address, uint64_t place)
 {
-    unsigned class = (kind == UPDATE ? 4 : 0) | (size == 1 ? 0 : size == 2 ? 1 : size == 4 ? 2 : 3);
-    uint64_t what = (address & ~63ull) | class | t->high, when = place << 32 | (uint32_t)t->epoch;
-    Seen *seen = &t->seen[hash(what ^ when << 2) >> (64 - SEEN_BITS)];
-    uint64_t logged = kind == READ ? seen->reads | seen->writes : kind == WRITE ? seen->writes : seen->reads;
-    if (__builtin_expect(seen->what != what || seen->when != when || !(logged >> (address & 63) & 1), 0))
-        add(t, seen, what, when, address, head_of(kind, size, place));
+    const unsigned shift = size == 1 ? 0 : size == 2 ? 1 : size == 4 ? 2 : 3, class = (kind == UPDATE) << 5 | shift << 3;
+    uint64_t block = address >> (6 + shift), when = place << 32 | (uint32_t)t->epoch;
+    uint64_t what = block << (6 + shift) | class | (address & (size - 1)) | t->high;
+    Seen *seen = &t->seen[2 * ((block + (block >> SET_BITS) * 11 + (hash(when) >> (64 - SET_BITS))) % (SEEN / 2))];
+    if (__builtin_expect(!is_of(seen, what, when) || !(logged(seen, kind) >> (address >> shift & 63) & 1), 0))
+        add(t, seen, what, when, address, (uint64_t)kind << 56 | (uint64_t)size << 48 | place);
 }
 
 // The same where the place isn't known yet, or stacks have names.

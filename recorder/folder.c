@@ -26,8 +26,6 @@ struct Run {
     unsigned number, open; // open: lanes that haven't ended
     bool closed;           // the root goes on in another folder
     Node root;
-    uint32_t *lines;       // of the root's regions
-    size_t lines_room;
     uint64_t records;
     atomic_uint tasks, segments, why;
     atomic_ullong bytes;
@@ -91,14 +89,6 @@ static void flush(Task *t)
 
 // ---- Records ----
 
-static void spell(unsigned char *to, unsigned kind, uint32_t line, uint64_t address, uint64_t value)
-{
-    uint64_t *word = (uint64_t *)to;
-    word[0] = __builtin_bswap64((uint64_t)kind << 56 | line);
-    word[1] = __builtin_bswap64(address);
-    word[2] = __builtin_bswap64(value);
-}
-
 static uint32_t records(const Task *t) { return t->written + (t->at - t->block) / RECORD; }
 
 static void set_end(Task *t)
@@ -126,7 +116,7 @@ void put_mark(Task *t, unsigned kind, uint32_t line, uint64_t address, uint64_t 
         flush(t);
         set_end(t);
     }
-    spell(t->at, kind, line, address, value);
+    spell(t->at, (uint64_t)kind << 56 | line, address, value);
     t->at += RECORD;
     t->since = t->at;
 }
@@ -169,8 +159,8 @@ static bool write_root(Run *run)
     unsigned char *bytes = malloc(size), *at = bytes + HEADER;
     if (!bytes) return false;
     memcpy(bytes, "SWLOG002", HEADER);
-    for (uint32_t r = 0; r < run->root.regions; r++, at += RECORD) spell(at, REGION, run->lines[r], 0, run->root.region[r]->span);
-    spell(at, END, 1, 0, 0);
+    for (uint32_t r = 0; r < run->root.regions; r++, at += RECORD) spell(at, (uint64_t)REGION << 56 | run->root.region[r]->line, 0, run->root.region[r]->span);
+    spell(at, (uint64_t)END << 56 | 1, 0, 0);
     run->root.records = run->root.regions + 1;
     log_name(name, run, NULL);
     bool good = write_file(name, true, bytes, size);
@@ -209,7 +199,6 @@ static void seal(Run *run)
     all_segments += atomic_load(&run->segments);
     all_records += run->records + run->root.records;
     free_node(&run->root);
-    free(run->lines);
     free(run);
 }
 
@@ -266,28 +255,6 @@ static bool is_full(const Run *run)
 
 bool part_is_big(const Task *t) { return t->depth == 1 && (records(t) > CUT || is_full(t->part->run)); }
 
-static bool grow_node(Node *node)
-{
-    if (node->regions < node->room) return true;
-    uint32_t room = node->room ? 2 * node->room : 4;
-    Part **moved = realloc(node->region, room * sizeof *moved);
-    if (!moved) return false;
-    node->region = moved;
-    node->room = room;
-    return true;
-}
-
-static bool grow_lines(Run *run)
-{
-    if (run->root.regions < run->lines_room) return true;
-    size_t room = run->lines_room ? 2 * run->lines_room : 4;
-    uint32_t *moved = realloc(run->lines, room * sizeof *moved);
-    if (!moved) return false;
-    run->lines = moved;
-    run->lines_room = room;
-    return true;
-}
-
 static bool leave_run(void)
 {
     Run *old = now;
@@ -306,17 +273,17 @@ static Part *add_part(const Team *team, unsigned span)
     if (!above && (is_full(now) || atomic_load(&now->why)) && !leave_run()) return NULL;
     Run *run = above ? above->part->run : now;
     Node *node = above ? above->node : &run->root;
-    Part *part = calloc(1, sizeof *part + span * sizeof *part->lane);
-    if (!part || !grow_node(node) || (!above && !grow_lines(run))) {
+    Part *part = calloc(1, sizeof *part + span * sizeof *part->lane), **regions = grown(node->region, &node->room, node->regions, sizeof part);
+    if (regions) node->region = regions;
+    if (!part || !regions) {
         free(part);
         cannot(above, WHY_MEMORY);
         return NULL;
     }
-    *part = (Part){.run = run, .number = node->regions, .span = span};
+    *part = (Part){.run = run, .number = node->regions, .line = team->line, .span = span};
     // Under the root there is always room: a folder that is so full goes on in a new one.
     if (atomic_fetch_add(&run->tasks, span) + span > ROWS) cannot(above, WHY_MANY_ROWS);
     run->open += span;
-    if (!above) run->lines[node->regions] = team->line;
     node->region[node->regions++] = part;
     return part;
 }

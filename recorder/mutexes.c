@@ -164,9 +164,9 @@ static void released(uint64_t id)
 
 // ---- What the runtime tells ----
 
-static void on_acquired(ompt_mutex_t kind, ompt_wait_id_t id, const void *ra) { acquired(id, ra); }
-static void on_released(ompt_mutex_t kind, ompt_wait_id_t id, const void *ra) { released(id); }
-static void on_destroy(ompt_mutex_t kind, ompt_wait_id_t id, const void *ra) { forget(id); }
+static void on_mutex_acquired(ompt_mutex_t kind, ompt_wait_id_t id, const void *ra) { acquired(id, ra); }
+static void on_mutex_released(ompt_mutex_t kind, ompt_wait_id_t id, const void *ra) { released(id); }
+static void on_lock_destroy(ompt_mutex_t kind, ompt_wait_id_t id, const void *ra) { forget(id); }
 
 static void on_reduction(ompt_sync_region_t kind, ompt_scope_endpoint_t end, ompt_data_t *parallel, ompt_data_t *data, const void *ra)
 {
@@ -176,14 +176,11 @@ static void on_reduction(ompt_sync_region_t kind, ompt_scope_endpoint_t end, omp
     else let_go(t, REDUCTION);
 }
 
+#define ASK(name) &&ask(ompt_callback_##name, (ompt_callback_t)on_##name) == ompt_set_always
 bool mutexes_start(void *set_callback)
 {
-    ompt_set_callback_t set = (ompt_set_callback_t)set_callback;
-    bool good = set(ompt_callback_mutex_acquired, (ompt_callback_t)on_acquired) == ompt_set_always;
-    good &= set(ompt_callback_mutex_released, (ompt_callback_t)on_released) == ompt_set_always;
-    good &= set(ompt_callback_lock_destroy, (ompt_callback_t)on_destroy) == ompt_set_always;
-    good &= set(ompt_callback_reduction, (ompt_callback_t)on_reduction) == ompt_set_always;
-    return good;
+    ompt_set_callback_t ask = (ompt_set_callback_t)set_callback;
+    return ask ASK(mutex_acquired) ASK(mutex_released) ASK(lock_destroy) ASK(reduction);
 }
 
 // ---- Mutexes of pthreads ----

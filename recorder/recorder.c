@@ -56,6 +56,15 @@ uint64_t setting(const char *name, uint64_t least, uint64_t most, uint64_t other
     return otherwise;
 }
 
+void *grown(void *items, size_t *room, size_t count, size_t size)
+{
+    if (count < *room) return items;
+    size_t more = *room ? 2 * *room : 4;
+    void *moved = realloc(items, more * size);
+    if (moved) *room = more;
+    return moved;
+}
+
 static void finish(void)
 {
 #define TEXT(name, text) text,

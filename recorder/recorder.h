@@ -35,7 +35,7 @@ enum { RECORD = 24, HEADER = 8, BLOCK = 2730 * RECORD }; // bytes of a record, o
     WHY(MANY_MUTEXES, "more than 8 mutexes held at once, or more than 65,535 in a region of the root") \
     WHY(THREADS, "a thread that isn't OpenMP's made accesses while a region ran, or forked one") \
     WHY(WITHIN, "the program ended within a region") \
-    WHY(STACKS, "too many threads or lanes of nested teams, or stacks of more than 64 MB") \
+    WHY(STACKS, "too many lanes of nested teams, or stacks of more than 64 MB") \
     WHY(FREED, "too much memory was freed between two barriers of the outermost team (SWORDREC_HOLD)") \
     WHY(LINES, "code whose line isn't known: compile all of it with recorder/swordcc (-g), and leave it uncompressed") \
     WHY(SKIPPED, "accesses that the compiler doesn't instrument, told when it compiled") \
@@ -60,7 +60,8 @@ typedef struct Task Task;
 
 // What the index needs of a task.
 typedef struct {
-    uint32_t records, regions, room;
+    uint32_t records, regions;
+    size_t room;
     Part **region;
 } Node;
 
@@ -68,18 +69,18 @@ typedef struct {
 struct Part {
     Run *run;
     Part *next; // where the team goes on after the cut
-    uint32_t number;
+    uint32_t number, line;
     unsigned span;
     Node lane[];
 };
 
-// A place in the table of what was logged: 64 bytes of memory as one line accesses them in one interval, with one size and set of mutexes.
-// A bit stands for the byte at which an access begins.
+// A place in the table of what was logged: 64 neighbours (bytes, or elements of 2, 4 or 8) as one line accesses them in one interval, with one size
+// and set of mutexes. A bit stands for each.
 typedef struct {
     uint64_t what, when, reads, writes;
 } Seen;
 
-enum { SEEN_BITS = 13, SEEN = 1 << SEEN_BITS }; // of a thread's table of them
+enum { SET_BITS = 15, SEEN = 2 << SET_BITS }; // of a thread's table of them: sets of two, the last used one first
 
 // A set of mutexes under which something was accessed in this interval.
 typedef struct {
@@ -118,14 +119,13 @@ struct Task {
     uint32_t mutex_line[HOLDS];
 };
 
-// A thread that ran a lane. Only it touches what is here, but for `name` (of its stack), and `held` while no region runs.
+// A thread that ran a lane. Only it touches what is here, but for `held` while no region runs.
 typedef struct Thread {
     struct Thread *next;
     Seen *seen;
     uint64_t epochs;
     Task *spare;
-    uint64_t low, high; // its stack
-    atomic_uint name;   // 0 unless it is a lane from 1 on of a nested team
+    struct Stack *stack; // NULL until it has had a name
     struct Chunk *held;
 } Thread;
 
@@ -168,9 +168,17 @@ void note_that(unsigned note);
 bool lost_for_good(void);
 void say(const char *format, ...) __attribute__((format(printf, 1, 2)));
 uint64_t setting(const char *name, uint64_t least, uint64_t most, uint64_t otherwise);
+void *grown(void *items, size_t *room, size_t count, size_t size); // with room for one more item; NULL: no memory, and they stay
 
 // accesses.c
 static inline uint64_t hash(uint64_t key) { return key * 0x9e3779b97f4a7c15ull; }
+static inline void spell(unsigned char *to, uint64_t head, uint64_t address, uint64_t value)
+{
+    uint64_t *word = (uint64_t *)to;
+    word[0] = __builtin_bswap64(head);
+    word[1] = __builtin_bswap64(address);
+    word[2] = __builtin_bswap64(value);
+}
 
 // lines.c: a place is site << 32 | line, as a record has it
 extern uint64_t text_low, text_length; // of the program's own code
@@ -223,6 +231,16 @@ struct Team {
 };
 bool teams_start(void *look_up);
 void free_tasks(Task *t);
+// What ThreadSanitizer can't see where the recorder is compiled with it (recorder/sanitize), since the runtime isn't.
+#if __has_feature(thread_sanitizer)
+void __tsan_acquire(void *);
+void __tsan_release(void *);
+static inline void happens_before(Team *team) { __tsan_release(team); }
+static inline void happens_after(Team *team) { __tsan_acquire(team); }
+#else
+static inline void happens_before(Team *team) {}
+static inline void happens_after(Team *team) {}
+#endif
 
 // reuse.c: memory that is used again
 extern atomic_uint stack_names; // 0: no stack has a name
@@ -230,6 +248,7 @@ void reuse_start(void);
 bool enter_thread(void);
 void leave_thread(void);
 void name_stack(void);
+void unname_stack(void);
 uint64_t named(uint64_t address);
 void release_own(void);
 void release_all(void);

@@ -13,7 +13,7 @@
 #include "recorder.h"
 #include <malloc.h>
 
-enum { HELD_BLOCKS = 255, LARGE = 65536, PAGE_BITS = 20, PAGES = 1 << 14, NAME_BITS = 21, STACK_BITS = 26 };
+enum { HELD_BLOCKS = 255, LARGE = 65536, NAME_BITS = 21, STACK_BITS = 26 };
 
 typedef struct Chunk {
     struct Chunk *next;
@@ -133,6 +133,10 @@ void *__wrap_reallocarray(void *block, size_t count, size_t size)
     return __wrap_realloc(block, bytes);
 }
 
+// C++'s operators, if the program has none of its own: its library's `new` gives blocks of malloc, and its other forms of `delete` call these.
+__attribute__((weak, visibility("default"))) void _ZdlPv(void *block) { __wrap_free(block); }
+__attribute__((weak, visibility("default"))) void _ZdlPvSt11align_val_t(void *block, size_t alignment) { __wrap_free(block); }
+
 int __wrap_munmap(void *at, size_t size)
 {
     if (in_region() && size && !((uintptr_t)at & (sysconf(_SC_PAGESIZE) - 1))) {
@@ -153,29 +157,16 @@ void *__wrap_mmap(void *at, size_t size, int protection, int flags, int file, of
 
 // ---- Threads and their stacks ----
 
-atomic_uint stack_names;
-static atomic_ullong stacks_low = ~0ull, stacks_high;
-// By page of a megabyte. A page may be in two stacks, and has two entries then. An entry of a thread that ended has no thread.
-static struct {
-    _Atomic uint64_t page;
-    _Atomic(Thread *) thread;
-} pages[PAGES];
-static unsigned pages_used;
+// A stack that has had a name. One of a thread that ended is another thread's later.
+typedef struct Stack {
+    struct Stack *next;
+    atomic_bool taken;
+    atomic_uint name; // 0 unless its thread is a lane from 1 on of a nested team
+    _Atomic uint64_t low, high;
+} Stack;
 
-static void enter_pages(Thread *t)
-{
-    for (uint64_t page = t->low >> PAGE_BITS; page <= (t->high - 1) >> PAGE_BITS; page++) {
-        if (pages_used == PAGES / 2) {
-            cannot(NULL, WHY_STACKS);
-            return;
-        }
-        unsigned i = hash(page) >> 50;
-        while (pages[i].page && !(pages[i].page == page && !pages[i].thread)) i = (i + 1) % PAGES;
-        pages_used += !pages[i].page;
-        atomic_store_explicit(&pages[i].thread, t, memory_order_relaxed);
-        atomic_store_explicit(&pages[i].page, page, memory_order_release);
-    }
-}
+atomic_uint stack_names;
+static _Atomic(Stack *) stacks;
 
 // Makes what a thread needs to run lanes.
 bool enter_thread(void)
@@ -196,8 +187,8 @@ bool enter_thread(void)
     return true;
 }
 
-// Finds this thread's stack and tells the others of it.
-static void enter_stack(void)
+// Finds this thread's stack and tells the others of it. False: it can't be named, and that was told.
+static bool enter_stack(void)
 {
     pthread_attr_t attributes;
     void *low = NULL;
@@ -206,60 +197,67 @@ static void enter_stack(void)
         if (pthread_attr_getstack(&attributes, &low, &size)) size = 0;
         pthread_attr_destroy(&attributes);
     }
-    if (!size || size > 1ul << STACK_BITS) {
-        cannot(NULL, WHY_STACKS);
-        return;
+    Stack *stack = atomic_load(&stacks);
+    while (stack && atomic_exchange(&stack->taken, true)) stack = stack->next;
+    const bool new = !stack;
+    if (new) stack = calloc(1, sizeof *stack);
+    if (!stack || !size || size > 1ul << STACK_BITS) {
+        cannot(NULL, stack ? WHY_STACKS : WHY_MEMORY);
+        if (new) free(stack);
+        return false;
     }
-    close_gate();
-    me->low = (uint64_t)low;
-    me->high = me->low + size;
-    if (me->low < atomic_load(&stacks_low)) atomic_store(&stacks_low, me->low);
-    if (me->high > atomic_load(&stacks_high)) atomic_store(&stacks_high, me->high);
-    enter_pages(me);
-    open_gate();
+    atomic_store(&stack->low, (uint64_t)low);
+    atomic_store(&stack->high, (uint64_t)low + size);
+    me->stack = stack;
+    if (!new) return true;
+    atomic_store(&stack->taken, true);
+    stack->next = atomic_load(&stacks);
+    while (!atomic_compare_exchange_weak(&stacks, &stack->next, stack)) {}
+    return true;
 }
 
-// The thread ends: it runs no lane any more. Its Thread stays, since others may look at it.
+// Gives this thread's stack a name of its own, for the lane that it is now.
+void name_stack(void)
+{
+    if (!me->stack && !enter_stack()) return;
+    uint32_t name = atomic_fetch_add(&stack_names, 1) + 1;
+    if (name >= 1u << NAME_BITS) cannot(NULL, WHY_STACKS);
+    atomic_store_explicit(&me->stack->name, name, memory_order_relaxed);
+}
+
+void unname_stack(void)
+{
+    if (me->stack) atomic_store_explicit(&me->stack->name, 0, memory_order_relaxed);
+}
+
+// The address under which the log has this one.
+uint64_t named(uint64_t address)
+{
+    for (Stack *stack = atomic_load_explicit(&stacks, memory_order_acquire); stack; stack = stack->next) {
+        uint64_t from = address - atomic_load_explicit(&stack->low, memory_order_relaxed);
+        uint32_t name = atomic_load_explicit(&stack->name, memory_order_relaxed);
+        if (name && address < atomic_load_explicit(&stack->high, memory_order_relaxed) && from < 1ul << STACK_BITS)
+            return (1ull << 47) + ((uint64_t)name << STACK_BITS | from);
+    }
+    return address;
+}
+
+// The thread ends: it runs no lane any more.
 void leave_thread(void)
 {
     Thread *t = me;
     if (!t) return;
     me = NULL;
+    if (t->stack) atomic_store(&t->stack->taken, false);
     close_gate();
     Thread **at = &threads;
     while (*at != t) at = &(*at)->next;
     *at = t->next;
-    for (unsigned i = 0; i < PAGES; i++)
-        if (atomic_load(&pages[i].thread) == t) atomic_store(&pages[i].thread, NULL);
     open_gate();
     // Blocks that it freed in a region that still runs may be used again from now on.
     if (t->held && atomic_load(&regions_now)) cannot(NULL, WHY_FREED);
     release(&t->held);
     free_tasks(t->spare);
     munmap(t->seen, SEEN * sizeof(Seen));
-}
-
-// Gives this thread's stack a name of its own, for the lane that it is now.
-void name_stack(void)
-{
-    if (!me->high) enter_stack();
-    uint32_t name = atomic_fetch_add(&stack_names, 1) + 1;
-    if (name >= 1u << NAME_BITS) cannot(NULL, WHY_STACKS);
-    atomic_store_explicit(&me->name, name, memory_order_relaxed);
-}
-
-// The address under which the log has this one.
-uint64_t named(uint64_t address)
-{
-    if (address < atomic_load_explicit(&stacks_low, memory_order_relaxed)) return address;
-    if (address >= atomic_load_explicit(&stacks_high, memory_order_relaxed)) return address;
-    uint64_t page = address >> PAGE_BITS;
-    unsigned i = hash(page) >> 50;
-    for (uint64_t there; (there = atomic_load_explicit(&pages[i].page, memory_order_acquire)); i = (i + 1) % PAGES) {
-        Thread *t = there == page ? atomic_load_explicit(&pages[i].thread, memory_order_acquire) : NULL;
-        if (!t || address < t->low || address >= t->high) continue;
-        uint32_t name = atomic_load_explicit(&t->name, memory_order_relaxed);
-        if (name) return (1ull << 47) + ((uint64_t)name << STACK_BITS | (address - t->low));
-    }
-    return address;
+    free(t);
 }

@@ -71,7 +71,7 @@ void free_tasks(Task *t)
 // The lane's log has ended.
 static void leave_lane(Task *t)
 {
-    if (t->pooled) atomic_store_explicit(&me->name, 0, memory_order_relaxed);
+    if (t->pooled) unname_stack();
     mine = t->outer;
     t->next_free = me->spare;
     me->spare = t;
@@ -112,6 +112,7 @@ static void on_parallel_begin(ompt_data_t *data, const ompt_frame_t *frame, ompt
     }
     parallel->ptr = team;
     team_now = team;
+    happens_before(team);
     cur = keep;
 }
 
@@ -166,6 +167,7 @@ static void on_implicit_task(ompt_scope_endpoint_t end, ompt_data_t *parallel, o
         return;
     }
     Team *team = parallel->ptr;
+    happens_after(team);
     if (span == 1 && !team->dead) {
         set(data, &within_parent);
         return;
@@ -181,6 +183,7 @@ static void on_parallel_end(ompt_data_t *parallel, ompt_data_t *data, int flags,
     if (!team) return;
     team_now = team->outer;
     if (!is_foreign(cur)) cur = NULL;
+    happens_after(team);
     if (team->counted) {
         release_all();
         mutexes_forget();
@@ -216,15 +219,19 @@ static void on_sync_region(ompt_sync_region_t kind, ompt_scope_endpoint_t end, o
     if (end == ompt_scope_begin) {
         const bool unnamed = kind == ompt_sync_region_barrier_implicit && (!ra || ra == t->team->return_address);
         if (unnamed || kind == ompt_sync_region_barrier_implicit_parallel) {
+            Team *team = t->team;
             set(data, &ended);
             close_lane(t);
+            happens_before(team);
             return;
         }
         t->barriers++;
         if (part_is_big(t)) atomic_store(&t->team->want[t->barriers & 1], t->barriers);
         t->barrier_line = line_of(ra);
+        happens_before(t->team);
         return;
     }
+    happens_after(t->team);
     if (t->depth == 1) release_own();
     if (pass(t, t->barrier_line)) {
         cur = t;
@@ -249,18 +256,11 @@ static void on_dependences(ompt_data_t *data, const ompt_dependence_t *dependenc
 
 static void on_thread_end(ompt_data_t *data) { leave_thread(); }
 
+#define ASK(name) &&ask(ompt_callback_##name, (ompt_callback_t)on_##name) == ompt_set_always
 bool teams_start(void *look_up)
 {
     ompt_set_callback_t ask = (ompt_set_callback_t)((ompt_function_lookup_t)look_up)("ompt_set_callback");
-    if (!ask) return false;
     main_thread = pthread_self();
-    bool good = ask(ompt_callback_parallel_begin, (ompt_callback_t)on_parallel_begin) == ompt_set_always;
-    good &= ask(ompt_callback_parallel_end, (ompt_callback_t)on_parallel_end) == ompt_set_always;
-    good &= ask(ompt_callback_implicit_task, (ompt_callback_t)on_implicit_task) == ompt_set_always;
-    good &= ask(ompt_callback_sync_region, (ompt_callback_t)on_sync_region) == ompt_set_always;
-    good &= ask(ompt_callback_task_create, (ompt_callback_t)on_task_create) == ompt_set_always;
-    good &= ask(ompt_callback_cancel, (ompt_callback_t)on_cancel) == ompt_set_always;
-    good &= ask(ompt_callback_dependences, (ompt_callback_t)on_dependences) == ompt_set_always;
-    good &= ask(ompt_callback_thread_end, (ompt_callback_t)on_thread_end) == ompt_set_always;
-    return good && mutexes_start((void *)ask);
+    return ask ASK(parallel_begin) ASK(parallel_end) ASK(implicit_task) ASK(sync_region) ASK(task_create) ASK(cancel) ASK(dependences) ASK(thread_end) &&
+           mutexes_start((void *)ask);
 }

@@ -1,7 +1,6 @@
 -- What `run` leaves and prints where it ends with status 0.
-use Rattle.std.proofs.Common.{◌≡◌, ap, ap₂, sym, ◌∙◌, subst, ℕ, List, length, map, Some}
+use Rattle.std.proofs.Common.{◌≡◌, ap, ap₂, sym, ◌∙◌, subst, ℕ, List, length, map}
 use Rattle.std.specs.Prelude.{sum_by}
-use Rattle.std.proofs.lemmas.Option.{same_Some}
 use Rattle.log_format.specs.declared.format.TheConstants.{FORMAT}
 use Rattle.sw_base.specs.Environment.{Content, with_put}
 use Rattle.sw_base.specs.HandedLog.{with_sealed}
@@ -9,26 +8,19 @@ use Rattle.sw_base.specs.Names.{index_name}
 use Rattle.race_model.specs.FirstBad.{rows_of}
 use Rattle.race_model.specs.Row.{index_bytes}
 use Rattle.race_model.specs.Trace.{TaskLog, Trace}
-use Rattle.kernel_syntax.specs.Program.{Program, program_of}
+use Rattle.kernel_syntax.specs.Program.{Program}
 use Rattle.kernel_syntax.specs.declared.syntax.Array.{Array}
 use Rattle.kernel_model.specs.Lawful.{IsLawful}
+use Rattle.kernel_file.specs.Due.{KernelDue, no_kernel, of_kernel, refused_kernel}
 use Rattle.kernel_file.specs.Holding.{HoldsKernel}
-use Rattle.kernel_reader.specs.KernelOf.{IsKernelOf}
 use Rattle.kernel_laws.proofs.Lawfulness.{kernels_are_lawful}
-use Rattle.kernel_laws.proofs.OneAnswer.{one-kernel}
 use Rattle.command_answer.specs.declared.status.TheConstants.{DONE}
-use Rattle.run_command.specs.declared.outcome.Outcome.{Outcome}
-use Rattle.run_command.specs.declared.outcome.Outcome.TheVariants as outcome
-use Rattle.run_command.specs.Outcomes.{due_status, due_text}
-use Rattle.run_command.specs.Run.{told_log, EndedRun, CameOut, RunDue}
+use Rattle.run_command.specs.Run.{EndedRun, RunAnswer, RunDue, ended_so, index_there, stopped_so, told_log}
 use Rattle.command_answer.specs.RunTexts.{run_text}
 use Rattle.certain_runs.specs.CertainRun.{IsCertainRun}
 use Rattle.certain_runs.specs.Leaving.{LeavesRun}
 use Rattle.certain_runs.proofs.EndedRuns.{tasks_are, words_are}
-
--- a file holds one kernel
-one_held : (text other : List ℕ) (p q : Program) → Some text ≡ Some other → IsKernelOf text p → IsKernelOf other q → p ≡ q
-one_held text other p q same one two = one-kernel text p q one (subst (λ (t : List ℕ). IsKernelOf t q) (sym (same_Some text other same)) two)
+use Rattle.certain_runs.proofs.Listed.{one_held}
 
 module _ (rose : Type 0) (kernel dir : List ℕ) (size : ℕ) (old new : Content) (text : List ℕ) (program : Program) (held : HoldsKernel old.held kernel program)
     (run : Trace) (words : List ℕ) (c : IsCertainRun program run words) where
@@ -54,17 +46,16 @@ module _ (rose : Type 0) (kernel dir : List ℕ) (size : ℕ) (old new : Content
       same_words : words ≡ others
       same_words = words_are p lawful run words of_p e.tasks others e.run
 
-  by_outcome : (o : Outcome) → CameOut rose kernel dir size old new o → due_status o ≡ DONE → due_text o ≡ Some text → LeavesRun dir size old new text program run words
-  by_outcome (outcome.Ran k tasks records ws) came done told =
-      ended (program_of k) tasks records ws.items (one_held held.text came.can.holds.text program (program_of k) (sym held.held ∙ came.can.holds.held) held.kernel came.can.holds.kernel)
-      came (sym (same_Some _ text told))
-  by_outcome outcome.NoKernel came done told = absurd cc
-  by_outcome (outcome.Refused line why) came done told = absurd cc
-  by_outcome outcome.IndexThere came done told = absurd cc
-  by_outcome (outcome.Stopped path line why) came done told = absurd cc
-  by_outcome outcome.ReadFault came done told = absurd cc
-  by_outcome outcome.WriteFault came done told = absurd cc
-  by_outcome outcome.NoMemory came done told = absurd cc
+  by_answer : (p : Program) (status : ℕ) → HoldsKernel old.held kernel p → RunAnswer rose kernel dir size old new p status text → status ≡ DONE → LeavesRun dir size old new text program run words
+  by_answer p status holds (ended_so count records others e _ printed) done =
+      ended p count records others (one_held held.text holds.text program p (sym held.held ∙ holds.held) held.kernel holds.kernel) e printed
+  by_answer p status holds (index_there _ _ is _) done = let e = sym is ∙ done in absurd (cc e)
+  by_answer p status holds (stopped_so _ _ _ _ is _) done = let e = sym is ∙ done in absurd (cc e)
+
+  by_kernel : (status : ℕ) → KernelDue (RunAnswer rose kernel dir size old new) old.held kernel status text → status ≡ DONE → LeavesRun dir size old new text program run words
+  by_kernel status (of_kernel p holds answer) done = by_answer p status holds answer done
+  by_kernel status (no_kernel _ is _) done = let e = sym is ∙ done in absurd (cc e)
+  by_kernel status (refused_kernel _ _ _ is _) done = let e = sym is ∙ done in absurd (cc e)
 
   pub leaves_certain_run : (status : ℕ) → RunDue rose kernel dir size old new status text → status ≡ DONE → LeavesRun dir size old new text program run words
-  leaves_certain_run status due done = by_outcome due.outcome due.came (sym due.due.status_is ∙ done) due.due.text_is
+  leaves_certain_run status due done = by_kernel status due.due done

@@ -2,6 +2,7 @@
 use Rattle.std.proofs.Common.{◌≡◌, ap, ap₂, sym, ◌∙◌, ℕ, List, ◌++◌, codes}
 use Rattle.sw_base.specs.Environment.{Content}
 use Rattle.kernel_syntax.specs.Program.{Program}
+use Rattle.kernel_file.specs.Due.{no_kernel, of_kernel, refused_kernel}
 use Rattle.kernel_file.specs.Holding.{HoldsKernel}
 use Rattle.execution_model.specs.Elements.{layout_of}
 use Rattle.command_answer.specs.declared.status.TheConstants.{DONE}
@@ -12,7 +13,7 @@ use Rattle.serial_laws.proofs.Certainty.{is_listed}
 use Rattle.certify.specs.Verdicts.{HasCertainRun, Tells}
 use Rattle.certify.specs.declared.verdict.Verdict.{Verdict}
 use Rattle.certify.specs.declared.verdict.Verdict.TheVariants as verdict
-use Rattle.certify_command.specs.Certify.{CertifyDue, IsVerdictText, no_kernel, refused_kernel, certified}
+use Rattle.certify_command.specs.Certify.{CertifyDue, IsVerdictText}
 use Rattle.certain_runs.specs.Leaving.{RunsAsCertified}
 use Rattle.certain_runs.proofs.CertainCommand.{leaves_certain_run}
 
@@ -47,4 +48,4 @@ module _ (rose : Type 0) (kernel dir : List ℕ) (size : ℕ) (old new : Content
   pub as_certified : CertifyDue old.held kernel told answer → RunsAsCertified kernel dir size old new answer text
   as_certified (no_kernel none status_is text_is) = let is = sym status_is ∙ done in absurd cc
   as_certified (refused_kernel line why has status_is text_is) = let is = sym status_is ∙ done in absurd cc
-  as_certified (certified program holds has) = by_verdict program has.verdict holds has.tells has.due
+  as_certified (of_kernel program holds has) = by_verdict program has.verdict holds has.tells has.due

@@ -3,3 +3,4 @@ pub mod Certified
 pub mod EndedRuns
 pub mod NeverStops
 pub mod SameListing
+pub mod Listed

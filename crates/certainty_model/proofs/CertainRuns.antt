@@ -20,7 +20,7 @@ use Rattle.race_laws.proofs.LabelLaw.{happens_before_antisym}
 use Rattle.race_laws.proofs.LabelPlace.{HasLast, has_last, is_region}
 use Rattle.race_laws.proofs.ProgramOrder.{node}
 use Rattle.kernel_syntax.specs.Program.{Program}
-use Rattle.kernel_model.specs.State.{Stop}
+use Rattle.kernel_model.specs.declared.stop.StopWhy.{StopWhy}
 use Rattle.kernel_model.specs.Trace.{Start, Ended, Stopped, Wanting}
 use Rattle.kernel_model.specs.Folder.{own_trace, lane_start, start_at, IsTracedTo}
 use Rattle.kernel_model.specs.Lawful.{IsLawful}
@@ -160,7 +160,7 @@ module _ (program : Program) (lawful : IsLawful program) (run : Trace) (certain 
         all_taken = sym (take_all (length (T path)) (T path) (omega arith)) ∙ (two program S T (λ p. ListsTask tasks p) runs path same).alike (length (T path)) (within path lists) (omega arith)
 
     -- none of its tasks stops
-    pub never_stops : (path : List Step) (start : Start) (why : Stop) (line : ℕ) → ListsTask tasks path → start_at program T path ≡ Some start → IsTracedTo program start (T path) (Stopped why line) → ⊥
+    pub never_stops : (path : List Step) (start : Start) (why : StopWhy) (line : ℕ) → ListsTask tasks path → start_at program T path ≡ Some start → IsTracedTo program start (T path) (Stopped why line) → ⊥
     never_stops path start why line lists starts traced = by ((two program S T (λ p. ListsTask tasks p) runs path same).ending (within path lists) here.records_are)
       where
         same : Same program S T (λ p. ListsTask tasks p) runs path

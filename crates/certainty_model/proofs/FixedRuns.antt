@@ -10,7 +10,8 @@ use Rattle.log_format.specs.declared.record.Record.{Record}
 use Rattle.log_format.specs.declared.record.Kind.TheVariants as kind
 use Rattle.log_format.specs.Fitting.{fitted}
 use Rattle.race_model.specs.Trace.{is_region_kind, region_count}
-use Rattle.kernel_model.specs.State.{State, Outcome, Gives, Wants, LogFull, DivZero, Index, and_then, after, put, put_in, event, assign, state_of}
+use Rattle.kernel_model.specs.State.{State, Outcome, Gives, Wants, and_then, after, put, put_in, event, assign, state_of}
+use Rattle.kernel_model.specs.declared.stop.StopWhy.TheVariants.{LogFull, DivZero, Index}
 use Rattle.kernel_model.specs.Value.{Site, Element, element_at, access, read, read_in, loaded, operated, value}
 use Rattle.kernel_model.specs.Iterations.{total_of, even_iterations, static_iterations}
 use Rattle.kernel_model.specs.Trace.{stored, branch, turns, each, shared, loop_end, forked, run}

@@ -9,7 +9,8 @@ use Rattle.log_format.specs.declared.record.Kind.{Kind}
 use Rattle.log_format.specs.declared.record.Kind.TheVariants as kind
 use Rattle.log_format.specs.Fitting.{fitted}
 use Rattle.race_model.specs.Trace.{region_count}
-use Rattle.kernel_model.specs.State.{State, Fork, Stop, Outcome, Gives, Stops, Wants, and_then, after, event, assign, state_of}
+use Rattle.kernel_model.specs.State.{State, Fork, Outcome, Gives, Stops, Wants, and_then, after, event, assign, state_of}
+use Rattle.kernel_model.specs.declared.stop.StopWhy.{StopWhy}
 use Rattle.kernel_model.specs.Value.{Element, access}
 use Rattle.kernel_model.specs.Trace.{forked}
 use Rattle.kernel_model.proofs.SingleSteps.{with_record, KeepsPlainSteps}
@@ -133,7 +134,7 @@ pub record Parting (s t : State) : Type 0 where
 -- The two end alike, or one of them wants a value in a state from which the other goes on, or they part.
 pub data Pair {A : Type 0} : Outcome A → Outcome A → Type 0 where
   gives : (a : A) (c : State) (p q : Own) → IsEven c → Pair (Gives a (with c p)) (Gives a (with c q))
-  stops : (why : Stop) (line : ℕ) (c : State) (p q : Own) → IsEven c → Pair (Stops why line (with c p)) (Stops why line (with c q))
+  stops : (why : StopWhy) (line : ℕ) (c : State) (p q : Own) → IsEven c → Pair (Stops why line (with c p)) (Stops why line (with c q))
   left_wants : (c : State) (p : Own) (o : Outcome A) → IsEven c → Adds c (state_of o) → Pair (Wants (with c p)) o
   right_wants : (c : State) (q : Own) (o : Outcome A) → IsEven c → Adds c (state_of o) → Pair o (Wants (with c q))
   parts : (m o : Outcome A) → Parting (state_of m) (state_of o) → Pair m o
@@ -176,5 +177,5 @@ then-run part next first later = subst Pairs (λ i s. after_is (part s) next i) 
 pub gives-pairs : {A : Type 0} (a : A) → Pairs (λ s. Gives a s)
 gives-pairs a = record { adds = λ s. adds_plain.same s; pairs = λ c p q even. Pair.gives a c p q even }
 
-pub stops-pairs : {A : Type 0} (why : Stop) (line : ℕ) → Pairs {A = A} (λ s. Stops why line s)
+pub stops-pairs : {A : Type 0} (why : StopWhy) (line : ℕ) → Pairs {A = A} (λ s. Stops why line s)
 stops-pairs why line = record { adds = λ s. adds_plain.same s; pairs = λ c p q even. Pair.stops why line c p q even }

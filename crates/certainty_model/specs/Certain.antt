@@ -19,7 +19,7 @@ IsFixedSchedule (Static chunk) = Unit {0}
 IsFixedSchedule (Dynamic chunk) = ⊥
 
 -- No critical section stands in the statements, no loop whose chunks are drawn and no atomic update, in inner regions neither. Drawn
--- chunks let the order of lanes decide more than what they read; a mutex hides a race; updates are left out as the law was asked for.
+-- chunks let the order of lanes decide more than what they read; a mutex hides a race; and the law is stated without updates.
 abbrev pub IsFixed : Code → Type 0
 IsFixed Done = Unit {0}
 IsFixed (Set slot value rest) = IsFixed rest

@@ -4,7 +4,7 @@ ghost use Rattle.race_model.specs.Trace.{Trace, logs_of};
 ghost use Rattle.race_model.specs.ForkJoin.{ListsTask};
 ghost use Rattle.race_model.specs.History.{HasLegalHistory};
 ghost use Rattle.kernel_syntax.specs.Program.{Program};
-ghost use Rattle.kernel_model.specs.State.{Stop};
+ghost use Rattle.kernel_model.specs.declared.stop.StopWhy.{StopWhy};
 ghost use Rattle.kernel_model.specs.Trace.{Start, Stopped};
 ghost use Rattle.kernel_model.specs.Folder.{start_at, IsTracedTo};
 ghost use Rattle.kernel_model.specs.Lawful.{IsLawful};
@@ -20,7 +20,7 @@ pub fn executions_begin_the_certain_run()
 /// The trace of no task of an execution ends in a stop.
 pub fn certain_kernels_never_stop()
     ensures { (program : Program) (run tasks : Trace) (address : ℕ → ℕ) (words : List ℕ) → IsLawful program → IsCertain program run →
-        IsExecution program tasks address words → (path : List Step) (start : Start) (why : Stop) (line : ℕ) → ListsTask tasks path →
+        IsExecution program tasks address words → (path : List Step) (start : Start) (why : StopWhy) (line : ℕ) → ListsTask tasks path →
         start_at program (logs_of tasks) path ≡ Some start → IsTracedTo program start (logs_of tasks path) (Stopped why line) → ⊥ }
 {}
 

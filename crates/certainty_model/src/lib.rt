@@ -1,7 +1,7 @@
 //! Certain kernels: one run without races is every run.
 //!
 //! A kernel is *fixed* (`IsFixed`) if it has no loop whose chunks are drawn, which lets the order of its lanes decide more than what they
-//! read; no critical section, whose mutex hides a race; and no atomic update, since the law was asked for without. A *run* (`IsRun`) is the
+//! read; no critical section, whose mutex hides a race; and no atomic update, without which the law is stated. A *run* (`IsRun`) is the
 //! tasks of a whole run with a legal history that respects happens-before. A run of a fixed kernel that has no race is *certain*
 //! (`IsCertain`).
 //!

@@ -16,16 +16,16 @@ use Rattle.kernel_syntax.specs.Program.{Program}
 use Rattle.execution_model.specs.Elements.{layout_of}
 use Rattle.folder_races.specs.Pairs.{AreFolderPairs}
 use Rattle.serial_team.specs.Members.{WholeLog}
-use Rattle.serial_team.specs.Running.{RanRoot}
+use Rattle.serial_team.specs.Running.{DidRoot}
 use Rattle.serial_laws.specs.SerialRuns.{spelled}
 use Rattle.serial_laws.proofs.Certainty.{is_certain, is_ended, keeps_rules}
 use Rattle.certainty_model.specs.Certain.{IsCertain}
 use Rattle.certainty_model.proofs.CertainRuns.{only_run}
 use Rattle.certify.specs.Holding.{HoldsTasks, KeepRules}
-use Rattle.certify.specs.Verdicts.{AreCompared, HasCertainRun, HasRaces, OpensOneTooMany, RunSpells, RunsTo, element_layout, records_in}
+use Rattle.certify.specs.Verdicts.{AreCompared, HasCertainRun, HasRaces, OpensOneTooMany, RunSpells, RunsTo, element_layout, record_total}
 use Rattle.certify.specs.declared.certifying.TheConstants.{MOST_RECORDS}
 
-counts_spelled : (tasks : Trace) → sum_by (λ (log : WholeLog). log.count) (map spelled tasks) ≡ records_in tasks
+counts_spelled : (tasks : Trace) → sum_by (λ (log : WholeLog). log.count) (map spelled tasks) ≡ record_total tasks
 counts_spelled [] = refl
 counts_spelled (task ∷ tasks) =
     sum_by-cons (λ (log : WholeLog). log.count) (spelled task) (map spelled tasks)
@@ -45,14 +45,14 @@ module _ (program : Program) (logs : List WholeLog) (words : List ℕ) (r : RunS
   pub keep_rules : KeepRules logs
   keep_rules = record { tasks = tasks; logs_are = r.run.logs_are; rules = rules }
 
-  count : sum_by (λ (log : WholeLog). log.count) logs ≡ records_in tasks
+  count : sum_by (λ (log : WholeLog). log.count) logs ≡ record_total tasks
   count = ap (λ (ls : List WholeLog). sum_by (λ (log : WholeLog). log.count) ls) r.run.logs_are ∙ counts_spelled tasks
 
   runs : RunsTo program tasks words
   runs = record {
     fixed = r.fixed;
     run = r.run.run;
-    ran = subst (λ (ls : List WholeLog). RanRoot (element_layout program) program MOST_RECORDS ls words) r.run.logs_are r.ran;
+    ran = subst (λ (ls : List WholeLog). DidRoot (element_layout program) program MOST_RECORDS ls words) r.run.logs_are r.ran;
   }
 
   module _ (dir : List ℕ) (told : Option Content) (held : HoldsTasks dir logs told) where

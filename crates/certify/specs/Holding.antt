@@ -11,13 +11,13 @@ use Rattle.serial_team.specs.Members.{WholeLog}
 use Rattle.serial_laws.specs.SerialRuns.{spelled}
 
 -- a folder after a whole log was put
-abbrev pub with_log : List ℕ → WholeLog → Content → Content
-with_log dir log content = with_put (log_name dir log.path) log.bytes content
+abbrev pub with_whole_log : List ℕ → WholeLog → Content → Content
+with_whole_log dir log content = with_put (log_name dir log.path) log.bytes content
 
 -- after all of them were, one after another
 abbrev pub with_logs : List ℕ → List WholeLog → Content → Content
 with_logs dir [] content = content
-with_logs dir (log ∷ logs) content = with_logs dir logs (with_log dir log content)
+with_logs dir (log ∷ logs) content = with_logs dir logs (with_whole_log dir log content)
 
 -- the row of a log
 abbrev pub row_of_log : WholeLog → Row

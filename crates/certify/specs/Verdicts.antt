@@ -18,7 +18,7 @@ use Rattle.certify.specs.Constructs.{construct_lines}
 use Rattle.serial_laws.specs.SerialRuns.{IsSerialRun, LogsSerialRun, spelled}
 use Rattle.serial_run.specs.Placing.{OfLog, ElementLayout}
 use Rattle.serial_team.specs.Members.{WholeLog}
-use Rattle.serial_team.specs.Running.{RanRoot}
+use Rattle.serial_team.specs.Running.{DidRoot}
 use Rattle.serial_team.specs.Stopping.{RootLong, RootStopped}
 use Rattle.execution_model.specs.Elements.{element_address, layout_of}
 use Rattle.certify.specs.declared.verdict.Verdict.{Verdict}
@@ -30,14 +30,14 @@ abbrev pub element_layout : Program → ElementLayout
 element_layout program = record { words = layout_of program.arrays; count = elements program.arrays; bound = OfLog }
 
 -- how many records the logs of tasks have
-abbrev pub records_in : Trace → ℕ
-records_in tasks = sum_by (λ (task : TaskLog). length task.records) tasks
+abbrev pub record_total : Trace → ℕ
+record_total tasks = sum_by (λ (task : TaskLog). length task.records) tasks
 
 -- The serial run of the kernel, which is fixed, has these tasks, and ends with these words.
 pub record RunsTo (program : Program) (tasks : Trace) (words : List ℕ) : Type 0 where
   pub fixed : IsFixed program.main.body
   pub run : IsSerialRun program (layout_of program.arrays) tasks words
-  pub ran : RanRoot (element_layout program) program MOST_RECORDS (map spelled tasks) words
+  pub ran : DidRoot (element_layout program) program MOST_RECORDS (map spelled tasks) words
 
 -- a folder that holds these tasks is bad at no place, so that their records are compared
 pub record AreCompared (tasks : Trace) : Type 0 where
@@ -74,7 +74,7 @@ pub record HasCertainRun (program : Program) (count records : ℕ) (words : List
   pub only : (other : Trace) → IsRun program other → AreSame program tasks other
   pub ends : HasLegalHistory (logs_of tasks) (element_address program.arrays) words
   pub count_is : count ≡ length tasks
-  pub records_are : records ≡ records_in tasks
+  pub records_are : records ≡ record_total tasks
 
 abbrev pub Tells : Program → Verdict → Type 0
 Tells program (verdict.Construct line) = slice_get (construct_lines program.main.body) 0 ≡ Some line
@@ -91,4 +91,4 @@ pub record RunSpells (program : Program) (logs : List WholeLog) (words : List �
   pub fixed : IsFixed program.main.body
   pub lawful : IsLawful program
   pub run : LogsSerialRun program (layout_of program.arrays) MOST_RECORDS logs words
-  pub ran : RanRoot (element_layout program) program MOST_RECORDS logs words
+  pub ran : DidRoot (element_layout program) program MOST_RECORDS logs words

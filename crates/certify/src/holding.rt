@@ -7,7 +7,7 @@ ghost use Rattle.log_format.specs.declared.format.TheConstants.{FORMAT};
 ghost use Rattle.race_model.specs.FirstBad.{HoldsTrace};
 ghost use Rattle.memory_environment.specs.MemFolder.{content_of};
 ghost use Rattle.serial_team.specs.Members.{whole_log};
-ghost use Rattle.certify.specs.Holding.{HoldsTasks, KeepRules, row_of_log, with_log, with_logs};
+ghost use Rattle.certify.specs.Holding.{HoldsTasks, KeepRules, row_of_log, with_whole_log, with_logs};
 
 use log_index::{Row, write_index};
 use memory_environment::MemFolder;
@@ -20,7 +20,7 @@ pub(crate) const DIR: &str = "c";
 
 // Puts the log of a task. No call on a folder in memory is to fail, so it wants nothing but memory.
 fn put_log(alloc: Global, folder: &mut MemFolder, log: &TaskLog) -> Result<(), Memory>
-    ensures { OnOk result (content_of folder.new ≡ option_map (with_log (codes "c") (whole_log log.now)) (content_of folder.old)) }
+    ensures { OnOk result (content_of folder.new ≡ option_map (with_whole_log (codes "c") (whole_log log.now)) (content_of folder.old)) }
 {
     let name = log.path.name(alloc, DIR)?;
     match folder.put(alloc, &name, &log.log) {

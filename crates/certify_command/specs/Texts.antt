@@ -3,18 +3,12 @@ use Rattle.std.specs.Prelude.{ℕ, List, ◌++◌, codes, decimal}
 use Rattle.sw_base.specs.declared.path.Step.{Step}
 use Rattle.sw_base.specs.Names.{bare_log_name}
 use Rattle.kernel_syntax.specs.declared.syntax.Array.{Array}
-use Rattle.serial_team.specs.declared.stop.StopWhy.{StopWhy}
-use Rattle.serial_team.specs.declared.stop.StopWhy.TheVariants.{DivZero, Index, LogFull, Tasks}
+use Rattle.kernel_model.specs.declared.stop.StopWhy.{StopWhy}
+use Rattle.kernel_model.specs.Stopping.{stop_name}
 use Rattle.race_report.specs.Report.{report_text}
 use Rattle.command_answer.specs.RunTexts.{run_text, stop_line}
 use Rattle.certify.specs.declared.verdict.Verdict.{Verdict}
 use Rattle.certify.specs.declared.verdict.Verdict.TheVariants as verdict
-
-abbrev pub stop_name : StopWhy → List ℕ
-stop_name DivZero = codes "DivZero"
-stop_name Index = codes "Index"
-stop_name LogFull = codes "LogFull"
-stop_name Tasks = codes "Tasks"
 
 abbrev pub construct_text : ℕ → List ℕ
 construct_text line = codes "uncertain: construct line " ++ decimal line ++ codes "\n"

@@ -1,6 +1,7 @@
 //! `certify`: the verdict on the kernel of a file is printed.
 ghost use Rattle.std.specs.Prelude.{◌≡◌};
 ghost use Rattle.sw_base.specs.Environment.{Rose, WhereTold};
+ghost use Rattle.sw_base.specs.OnlyReads.{OnlyReads};
 ghost use Rattle.kernel_syntax.specs.Program.{program_of};
 ghost use Rattle.kernel_model.specs.Lawful.{IsLawful};
 ghost use Rattle.command_answer.specs.Answer.{Tries};
@@ -47,9 +48,8 @@ pub fn certify_file<R: Threads + Sync, F: Folder, O: Out, G: Gate>(
     kernel: &str,
 ) -> u8
     ensures answers { WhereTold (F.state folder.old).content (λ c. Tries (CertifyDue c.held kernel.now) (O.written out.old) (O.written out.new) result) }
-    ensures read_fault { result ≡ READ_FAULT → Rose (F.read_faults folder.old) (F.read_faults folder.new) }
     ensures write_fault { result ≡ WRITE_FAULT → Rose (O.faults out.old) (O.faults out.new) }
-    ensures same { F.state folder.new ≡ F.state folder.old }
+    ensures reads { OnlyReads F.Folder folder.old folder.new (result ≡ READ_FAULT) }
     ensures no_usage { result ≡ USAGE → ⊥ }
 {
     match read_kernel_file(alloc, folder, kernel) {

@@ -1,23 +1,12 @@
 //! The texts of verdicts.
 ghost use Rattle.std.specs.Prelude.{◌≡◌, IfOk, string_bytes};
-ghost use Rattle.certify_command.specs.Texts.{certain_text, construct_text, long_text, segments_text, stop_name, uncertain_stop_text};
+ghost use Rattle.certify_command.specs.Texts.{certain_text, construct_text, long_text, segments_text, uncertain_stop_text};
 
 use command_answer::{run_text, stop_line};
 use kernel_syntax::Array;
 use serial_team::StopWhy;
 use std::alloc::Global;
 use sw_base::{Memory, Path};
-
-fn stop_name(why: StopWhy) -> &'static str
-    ensures { result.now ≡ stop_name why }
-{
-    match why {
-        StopWhy::DivZero => "DivZero",
-        StopWhy::Index => "Index",
-        StopWhy::LogFull => "LogFull",
-        StopWhy::Tasks => "Tasks",
-    }
-}
 
 pub fn construct(alloc: Global, line: u32) -> Result<String, Memory>
     ensures { IfOk result (λ text. string_bytes text ≡ construct_text line) }
@@ -42,7 +31,7 @@ pub fn segments(alloc: Global, path: &Path, number: u32) -> Result<String, Memor
 pub fn stopped(alloc: Global, path: &Path, line: u32, why: StopWhy) -> Result<String, Memory>
     ensures { IfOk result (λ text. string_bytes text ≡ uncertain_stop_text path.now line why) }
 {
-    let told = stop_line(alloc, path, line, stop_name(why))?;
+    let told = stop_line(alloc, path, line, why.name())?;
     Ok(format!(in alloc; "uncertain: {told}")?)
 }
 

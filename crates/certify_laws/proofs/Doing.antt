@@ -1,22 +1,22 @@
 -- What the tasks of a serial run do, whether they stop or not.
 use Rattle.std.proofs.Common.{◌≡◌, ℕ, ◌+◌, List, [], ◌∷◌, length, ℤ, Option, Some, None, All}
 use Rattle.std.specs.Prelude.{◌<◌, ◌≤◌}
+use Rattle.log_format.specs.Limit.{record_limit, task_limit}
 use Rattle.sw_base.specs.declared.path.Step.{Step}
 use Rattle.log_format.specs.declared.record.Kind.TheVariants as kind
 use Rattle.kernel_syntax.specs.Tree.{TeamTree}
 use Rattle.kernel_model.specs.Effect.{Halted}
-use Rattle.kernel_model.specs.State as model
-use Rattle.kernel_model.specs.Trace.{log_limit}
+use Rattle.kernel_model.specs.declared.stop.StopWhy.{StopWhy}
+use Rattle.kernel_model.specs.declared.stop.StopWhy.TheVariants as reason
 use Rattle.kernel_model.specs.State.{event}
 use Rattle.history_model.specs.Work.{Work, Phases}
-use Rattle.serial_run.specs.Going.{Progress, Made}
+use Rattle.serial_run.specs.Going.{SerialProgress, RanPart}
 use Rattle.serial_run.specs.Placing.{ElementLayout}
-use Rattle.serial_run.specs.Stepping.{Stand, Advances, Finishes, left_of}
+use Rattle.serial_run.specs.Stepping.{Stand, Advances, Finishes, stand_left}
 use Rattle.serial_team.specs.declared.member.Stage.TheVariants as stage
-use Rattle.serial_team.specs.declared.stop.StopWhy.TheVariants as why
 use Rattle.serial_team.specs.Members.{Pool, pool_at, MemberValue, later, idle, path_in, BeginTeam}
-use Rattle.serial_team.specs.Running.{most_below, past_region, LaneRuns, TeamRuns, PhasesRun}
-use Rattle.serial_team.specs.Stopping.{StopAt, LongAt, why_of, bounded, LaneStops, TeamGoes, PhasesStop, LaneLong, TeamLong, PhasesLong}
+use Rattle.serial_team.specs.Running.{past_region, LaneRuns, TeamRuns, PhasesRun}
+use Rattle.serial_team.specs.Stopping.{StopAt, LongAt, bounded, LaneStops, TeamGoes, PhasesStop, LaneLong, TeamLong, PhasesLong}
 
 -- how a task ends its phase: it stands still, or it stops and leaves this to the others, or it would put a record too many
 pub data LaneEnd : Type 0 where
@@ -50,11 +50,11 @@ mutual
     waits : (path : List Step) (x : MemberValue) (y : Stand) (line : ℕ) → (a : Advances layout x.stand y (event kind.Barrier line 0 0 ∷ []) [])
         → LaneDoes layout path x (Stands (record x { stand = y; stage = stage.Waits }))
     ends : (path : List Step) (x : MemberValue) (y : Stand) → (f : Finishes layout x.stand y) → LaneDoes layout path x (Stands (record x { stand = y; stage = stage.Ended }))
-    halts : (path : List Step) (x : MemberValue) (slots : List ℤ) (last : Progress) (w : model.Stop) (line : ℕ)
-        → (m : Made layout (left_of x.stand) x.stand.slots slots x.stand.progress last (Halted w line))
-        → LaneDoes layout path x (Fails (record { words = last.words; left = last.left }) (record { path = path; line = line; why = why_of w }))
-    breaks : (path : List Step) (x : MemberValue) (slots : List ℤ) (last : Progress) (line : ℕ)
-        → (m : Made (bounded layout) (left_of x.stand) x.stand.slots slots x.stand.progress last (Halted model.LogFull line)) → last.left ≡ 0 → last.count < log_limit
+    halts : (path : List Step) (x : MemberValue) (slots : List ℤ) (last : SerialProgress) (w : StopWhy) (line : ℕ)
+        → (m : RanPart layout (stand_left x.stand) x.stand.slots slots x.stand.progress last (Halted w line))
+        → LaneDoes layout path x (Fails (record { words = last.words; left = last.left }) (record { path = path; line = line; why = w }))
+    breaks : (path : List Step) (x : MemberValue) (slots : List ℤ) (last : SerialProgress) (line : ℕ)
+        → (m : RanPart (bounded layout) (stand_left x.stand) x.stand.slots slots x.stand.progress last (Halted reason.LogFull line)) → last.left ≡ 0 → last.count < record_limit
         → LaneDoes layout path x (Breaks (record { path = path; number = last.count + 1 }))
     forks : (path : List Step) (x : MemberValue) (y : Stand) (team : TeamTree) (xs : List MemberValue) (e : TeamEnd) (z : LaneEnd)
         → (a : Advances layout x.stand y (event kind.Region team.line 0 team.span ∷ []) (record { team = team; slots = y.slots } ∷ []))
@@ -65,9 +65,9 @@ mutual
   pub data RegionDoes (layout : ElementLayout) : List Step → MemberValue → Stand → TeamTree → TeamEnd → LaneEnd → Type 0 where
     fails : (path : List Step) (x : MemberValue) (y : Stand) (team : TeamTree) (p : Pool) (at : StopAt) → RegionDoes layout path x y team (OneFails p at) (Fails p at)
     broken : (path : List Step) (x : MemberValue) (y : Stand) (team : TeamTree) (long : LongAt) → RegionDoes layout path x y team (OneBreaks long) (Breaks long)
-    many : (path : List Step) (x : MemberValue) (y : Stand) (team : TeamTree) (ys : List MemberValue) (p : Pool) → most_below < length (past_region path x y ys p).below
-        → RegionDoes layout path x y team (AllStand ys p) (Fails p (record { path = path; line = team.line; why = why.Tasks }))
-    onward : (path : List Step) (x : MemberValue) (y : Stand) (team : TeamTree) (ys : List MemberValue) (p : Pool) (z : LaneEnd) → length (past_region path x y ys p).below ≤ most_below
+    many : (path : List Step) (x : MemberValue) (y : Stand) (team : TeamTree) (ys : List MemberValue) (p : Pool) → task_limit < length (past_region path x y ys p).below
+        → RegionDoes layout path x y team (AllStand ys p) (Fails p (record { path = path; line = team.line; why = reason.Tasks }))
+    onward : (path : List Step) (x : MemberValue) (y : Stand) (team : TeamTree) (ys : List MemberValue) (p : Pool) (z : LaneEnd) → length (past_region path x y ys p).below ≤ task_limit
         → LaneDoes layout path (past_region path x y ys p) z → RegionDoes layout path x y team (AllStand ys p) z
 
   -- the lanes of a region do this in a phase, one after another

@@ -16,7 +16,7 @@ use Rattle.kernel_model.proofs.Growing.{grows-plain, run-grows}
 use Rattle.kernel_model.proofs.Steps.{Part, kept-after, kept-each, kept-put, kept-turns}
 use Rattle.serial_run.specs.declared.frame.Frame.{Frame}
 use Rattle.serial_run.specs.declared.frame.Frame.TheVariants as frame
-use Rattle.serial_run.specs.Resting.{dealt_from, part_of, rest_of}
+use Rattle.serial_run.specs.Resting.{dealt_from, frame_part, frames_rest}
 
 -- a record that is no Region
 pub put_grows : (r : Record) (s : State) → is_region_kind r.kind ≡ false → Grows s (state_of (put r s))
@@ -32,7 +32,7 @@ put_grows r s plain = kept-put Grows grows-plain r s (λ room is. record {
 turn_grows : (at : Site) (code : Code) (slot : ℕ) (from : ℤ) (k : ℕ) (s : State) → Grows s (state_of (turn_from at code slot from k s))
 turn_grows at code slot from k s = grows-plain.chain s _ _ (grows-plain.assigns slot _ s) (run-grows at code _)
 
-frame_grows : (at : Site) (f : Frame) (s : State) → Grows s (state_of (part_of at f s))
+frame_grows : (at : Site) (f : Frame) (s : State) → Grows s (state_of (frame_part at f s))
 frame_grows at (frame.Statements stmts) s = run-grows at (code_of stmts.now) s
 frame_grows at (frame.Turns body slot next end) s =
     kept-turns Grows grows-plain (total_of next end) 0 (turn_from at (code_of body.now.stmts.items) slot next) s (turn_grows at (code_of body.now.stmts.items) slot next)
@@ -40,6 +40,6 @@ frame_grows at (frame.Chunks body slot from to chunk next) s =
     kept-each Grows grows-plain (dealt_from chunk (total_of from to) at.lane at.span next) (turn_from at (code_of body.now.stmts.items) slot from) s (turn_grows at (code_of body.now.stmts.items) slot from)
 frame_grows at (frame.Barrier line) s = put_grows (event kind.Barrier line 0 0) s refl
 
-pub rest_grows : (at : Site) (rest : List Frame) (then' : Part) → ((s : State) → Grows s (state_of (then' s))) → (s : State) → Grows s (state_of (rest_of at rest then' s))
+pub rest_grows : (at : Site) (rest : List Frame) (then' : Part) → ((s : State) → Grows s (state_of (then' s))) → (s : State) → Grows s (state_of (frames_rest at rest then' s))
 rest_grows at [] then' grows s = grows s
-rest_grows at (f ∷ above) then' grows s = rest_grows at above (λ t. after (part_of at f t) then') (λ t. kept-after Grows grows-plain t (part_of at f t) then' (frame_grows at f t) grows) s
+rest_grows at (f ∷ above) then' grows s = rest_grows at above (λ t. after (frame_part at f t) then') (λ t. kept-after Grows grows-plain t (frame_part at f t) then' (frame_grows at f t) grows) s

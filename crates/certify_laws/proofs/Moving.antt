@@ -4,23 +4,26 @@ use Rattle.std.specs.Prelude.{slice_index}
 use Rattle.std.proofs.Math.Nat.{min-le_right}
 use Rattle.std.proofs.lemmas.List.{length-append}
 use Rattle.std.proofs.lemmas.List.Elements.{All-tail}
+use Rattle.log_format.specs.Limit.{record_limit}
 use Rattle.log_format.specs.declared.record.Record.{Record}
 use Rattle.log_format.specs.declared.record.Kind.{Kind}
 use Rattle.log_format.specs.declared.record.Kind.TheVariants as kind
 use Rattle.log_format.specs.Fitting.{fit}
 use Rattle.kernel_syntax.specs.Program.{Program}
 use Rattle.kernel_model.specs.Effect.{Halted, Makes, adds, state_with}
-use Rattle.kernel_model.specs.State.{State, Fork, Stop, Outcome, Gives, Stops, Wants, LogFull, event, put, reads_of, chunks_of, state_of}
-use Rattle.kernel_model.specs.Trace.{Start, Ending, Stopped, Wanting, ending_of, log_limit, site_of, task}
+use Rattle.kernel_model.specs.State.{State, Fork, Outcome, Gives, Stops, Wants, event, put, reads_of, chunks_of, state_of}
+use Rattle.kernel_model.specs.declared.stop.StopWhy.{StopWhy}
+use Rattle.kernel_model.specs.declared.stop.StopWhy.TheVariants.{LogFull}
+use Rattle.kernel_model.specs.Trace.{Start, Ending, Stopped, Wanting, ending_of, site_of, task}
 use Rattle.kernel_model.specs.Growth.{Grows}
 use Rattle.kernel_model.proofs.Effects.{reads_of-append, chunks_of-append}
 use Rattle.kernel_model.proofs.Growing.{grows-plain}
 use Rattle.kernel_model.proofs.Steps.{Part}
 use Rattle.certainty_model.specs.Certain.{IsFixed}
 use Rattle.certainty_model.proofs.Pairs.{FixedFork}
-use Rattle.serial_run.specs.Going.{Progress, room_of, FindsValue, words_after, Finds, ArePlain, Made}
+use Rattle.serial_run.specs.Going.{SerialProgress, room_of, FindsValue, words_after, Finds, ArePlain, RanPart}
 use Rattle.serial_run.specs.Placing.{Bound, OfLog, OfRun, ElementLayout}
-use Rattle.serial_run.specs.Stepping.{Stand, Leads, Adds, left_of}
+use Rattle.serial_run.specs.Stepping.{Stand, Leads, Adds, stand_left}
 use Rattle.certify_laws.proofs.GoAlike.{ReadApart, GoAlike, AreSized, alike_past, forks_fixed, traces_go_alike}
 use Rattle.serial_team.specs.Stopping.{bounded}
 use Rattle.certify_laws.proofs.Growing.{put_grows, rest_grows}
@@ -140,9 +143,9 @@ pub record HasCome (program : Program) (start : Start) (records : List Record) (
   pub at : x.at ≡ site_of program start
   pub count : x.progress.count ≡ length records
   pub leads : (reads : List ℤ) (chunks : List ℕ) → task program start (reads_of records ++ reads) (chunks_of records ++ chunks)
-      ≡ left_of x (state_with x.slots records forks (log_limit - x.progress.count) reads chunks)
+      ≡ stand_left x (state_with x.slots records forks (record_limit - x.progress.count) reads chunks)
 
-pub left_roomy : (x : Stand) → Roomy (left_of x)
+pub left_roomy : (x : Stand) → Roomy (stand_left x)
 left_roomy x = rest-roomy x.at x.rest (put (event kind.End x.end 0 0)) (put-roomy (event kind.End x.end 0 0) refl)
 
 module _ (program : Program) (start : Start) where
@@ -152,69 +155,69 @@ module _ (program : Program) (start : Start) where
 
   module _ (records : List Record) (forks : List Fork) (x : Stand) (h : HasCome program start records forks x) where
     goes_before : (added : List Record) (reads : List ℤ) (chunks : List ℕ) → task program start (reads_of (records ++ added) ++ reads) (chunks_of (records ++ added) ++ chunks)
-        ≡ left_of x (state_with x.slots records forks (log_limit - x.progress.count) (reads_of added ++ reads) (chunks_of added ++ chunks))
+        ≡ stand_left x (state_with x.slots records forks (record_limit - x.progress.count) (reads_of added ++ reads) (chunks_of added ++ chunks))
     goes_before added reads chunks =
         ap₂ (λ (one : List ℤ) (other : List ℕ). task program start one other)
         (ap (λ (l : List ℤ). l ++ reads) (reads_of-append records added) ∙ append_assoc (reads_of records) (reads_of added) reads)
         (ap (λ (l : List ℕ). l ++ chunks) (chunks_of-append records added) ∙ append_assoc (chunks_of records) (chunks_of added) chunks)
         ∙ h.leads (reads_of added ++ reads) (chunks_of added ++ chunks)
 
-    pub goes_on : (part : Part) (slots : List ℤ) (room : ℕ) (added : List Record) (more : List Fork) → Leads (left_of x) x.slots (log_limit - x.progress.count) part slots room added more
+    pub goes_on : (part : Part) (slots : List ℤ) (room : ℕ) (added : List Record) (more : List Fork) → Leads (stand_left x) x.slots (record_limit - x.progress.count) part slots room added more
         → (reads : List ℤ) (chunks : List ℕ) → task program start (reads_of (records ++ added) ++ reads) (chunks_of (records ++ added) ++ chunks)
         ≡ part (state_with slots (records ++ added) (forks ++ more) room reads chunks)
     goes_on part slots room added more leads reads chunks = goes_before added reads chunks ∙ leads records forks reads chunks
 
     -- it stops there
-    pub halts_so : (slots : List ℤ) (last : Progress) (why : Stop) (line : ℕ) (layout : ElementLayout) → layout.bound ≡ OfLog → (m : Made layout (left_of x) x.slots slots x.progress last (Halted why line))
+    pub halts_so : (slots : List ℤ) (last : SerialProgress) (why : StopWhy) (line : ℕ) (layout : ElementLayout) → layout.bound ≡ OfLog → (m : RanPart layout (stand_left x) x.slots slots x.progress last (Halted why line))
         → ((state_of (traced (records ++ m.added))).records ≡ records ++ m.added) × (ending_of (traced (records ++ m.added)) ≡ Stopped why line)
     halts_so slots last why line layout log m =
-        let makes = subst (λ (b : Bound). Makes (left_of x) x.slots (room_of b x.progress) (adds slots m.added) (Halted why line)) log m.makes in
+        let makes = subst (λ (b : Bound). Makes (stand_left x) x.slots (room_of b x.progress) (adds slots m.added) (Halted why line)) log m.makes in
         let is = goes_before m.added [] [] ∙ makes.makes records forks [] [] in
         (ap (λ (o : Outcome (Unit {0})). (state_of o).records) is, ap (λ (o : Outcome (Unit {0})). ending_of o) is)
 
     -- with room for so many records less it stops there, as they are used up: its trace goes on
-    pub goes_beyond : (layout : ElementLayout) (slots : List ℤ) (last : Progress) (line : ℕ) (m : Made (bounded layout) (left_of x) x.slots slots x.progress last (Halted LogFull line)) → last.left ≡ 0 → last.count < log_limit
+    pub goes_beyond : (layout : ElementLayout) (slots : List ℤ) (last : SerialProgress) (line : ℕ) (m : RanPart (bounded layout) (stand_left x) x.slots slots x.progress last (Halted LogFull line)) → last.left ≡ 0 → last.count < record_limit
         → GoesOn (state_with slots (records ++ m.added) (forks ++ []) (room_of OfRun x.progress - length m.added) [] []) (traced (records ++ m.added))
     goes_beyond layout slots last line m none below =
         let c = state_with x.slots records forks 0 (reads_of m.added ++ []) (chunks_of m.added ++ []) in
-        let few : room_of OfRun x.progress ≤ x.progress.left = min-le_right (log_limit - x.progress.count) x.progress.left in
+        let few : room_of OfRun x.progress ≤ x.progress.left = min-le_right (record_limit - x.progress.count) x.progress.left in
         let left = m.gains.left in
         let count = m.gains.count in
-        let less : room_of OfRun x.progress < log_limit - x.progress.count = omega (arith, few, left, count, none, below) in
+        let less : room_of OfRun x.progress < record_limit - x.progress.count = omega (arith, few, left, count, none, below) in
         subst (GoesOn (state_with slots (records ++ m.added) (forks ++ []) (room_of OfRun x.progress - length m.added) [] [])) (sym (goes_before m.added [] []))
-        (goes_past (left_of x (roomy (room_of OfRun x.progress) c)) (left_of x (roomy (log_limit - x.progress.count) c)) line _ (m.makes.makes records forks [] [])
-        ((left_roomy x).rooms c (room_of OfRun x.progress) (log_limit - x.progress.count) less))
+        (goes_past (stand_left x (roomy (room_of OfRun x.progress) c)) (stand_left x (roomy (record_limit - x.progress.count) c)) line _ (m.makes.makes records forks [] [])
+        ((left_roomy x).rooms c (room_of OfRun x.progress) (record_limit - x.progress.count) less))
 
     -- it comes to there
     pub has_come : (y : Stand) (added : List Record) (more : List Fork) → y.at ≡ x.at → y.progress.count ≡ x.progress.count + length added
-        → Leads (left_of x) x.slots (log_limit - x.progress.count) (left_of y) y.slots (log_limit - y.progress.count) added more → HasCome program start (records ++ added) (forks ++ more) y
+        → Leads (stand_left x) x.slots (record_limit - x.progress.count) (stand_left y) y.slots (record_limit - y.progress.count) added more → HasCome program start (records ++ added) (forks ++ more) y
     has_come y added more at count leads = record {
       at = at ∙ h.at;
       count = let before = h.count in omega (arith, count, before, length-append records added);
-      leads = goes_on (left_of y) y.slots (log_limit - y.progress.count) added more leads;
+      leads = goes_on (stand_left y) y.slots (record_limit - y.progress.count) added more leads;
     }
 
 -- a stop wants no value
-stop_no_want : (m : Outcome (Unit {0})) (why : Stop) (line : ℕ) → ending_of m ≡ Stopped why line → ending_of m ≡ Wanting → ⊥
+stop_no_want : (m : Outcome (Unit {0})) (why : StopWhy) (line : ℕ) → ending_of m ≡ Stopped why line → ending_of m ≡ Wanting → ⊥
 stop_no_want m why line is wants = let e : Stopped why line ≡ Wanting = sym is ∙ wants in cc
 
 -- a part that only adds records and regions
 abbrev pub IsGrowing : Part → Type 0
 IsGrowing part = (s : State) → Grows s (state_of (part s))
 
-pub left_grows : (x : Stand) → IsGrowing (left_of x)
+pub left_grows : (x : Stand) → IsGrowing (stand_left x)
 left_grows x = rest_grows x.at x.rest (put (event kind.End x.end 0 0)) (λ s. put_grows (event kind.End x.end 0 0) s refl)
 
 pub nothing_grows : IsGrowing (λ s. Gives tt s)
 nothing_grows s = grows-plain.same s
 
 -- The task goes on from there over the words to its next mark, and what it goes on with is this.
-pub record Moves (layout : ElementLayout) (x : Stand) (mark : Record) (more : List Fork) (new : Progress) : Type 0 where
+pub record Moves (layout : ElementLayout) (x : Stand) (mark : Record) (more : List Fork) (new : SerialProgress) : Type 0 where
   pub makes : Adds layout x.progress new (mark ∷ [])
   pub is : IsMark mark
   pub part : Part
   pub slots : List ℤ
-  pub leads : Leads (left_of x) x.slots (log_limit - x.progress.count) part slots (log_limit - new.count) makes.added more
+  pub leads : Leads (stand_left x) x.slots (record_limit - x.progress.count) part slots (record_limit - new.count) makes.added more
   pub grows : IsGrowing part
 
 -- lists of forks that begin what is one list, of forks of fixed teams
@@ -232,12 +235,12 @@ module _ (layout : ElementLayout) (log : layout.bound ≡ OfLog) (program : Prog
     further : List Fork
     forks_are : (state_of outcome).forks ≡ forks ++ (more ++ further)
 
-  move_shows : (x : Stand) (mark : Record) (more : List Fork) (new : Progress) → HasCome program start records forks x → (m : Moves layout x mark more new)
+  move_shows : (x : Stand) (mark : Record) (more : List Fork) (new : SerialProgress) → HasCome program start records forks x → (m : Moves layout x mark more new)
       → Shows (traced program start (records ++ m.makes.added)) m.makes.added more
   move_shows x mark more new h m =
-      let end = state_with m.slots (records ++ m.makes.added) (forks ++ more) (log_limit - new.count) [] [] in
+      let end = state_with m.slots (records ++ m.makes.added) (forks ++ more) (record_limit - new.count) [] [] in
       let grown = m.grows end in
-      let is = goes_on program start records forks x h m.part m.slots (log_limit - new.count) m.makes.added more m.leads [] [] in
+      let is = goes_on program start records forks x h m.part m.slots (record_limit - new.count) m.makes.added more m.leads [] [] in
       record {
         later = grown.added;
         records_are = ap (λ (o : Outcome (Unit {0})). (state_of o).records) is ∙ (grown.records_are ∙ append_assoc records m.makes.added grown.added);
@@ -258,7 +261,7 @@ module _ (layout : ElementLayout) (log : layout.bound ≡ OfLog) (program : Prog
 
   module _ (x y : Stand) (h : HasCome program start records forks x) (g : HasCome program start records forks y) (words : y.progress.words ≡ x.progress.words) where
     -- two moves
-    module _ (mark sign : Record) (more less : List Fork) (new other : Progress) (m : Moves layout x mark more new) (n : Moves layout y sign less other) where
+    module _ (mark sign : Record) (more less : List Fork) (new other : SerialProgress) (m : Moves layout x mark more new) (n : Moves layout y sign less other) where
       mine : Shows (traced program start (records ++ m.makes.added)) m.makes.added more
       mine = move_shows x mark more new h m
 
@@ -300,8 +303,8 @@ module _ (layout : ElementLayout) (log : layout.bound ≡ OfLog) (program : Prog
           last_of (f ∷ fs) xs all = last_of fs xs (All-tail FixedFork f (fs ++ xs) all)
 
     -- a stop and a move
-    pub halts_alone : (slots : List ℤ) (last : Progress) (why : Stop) (line : ℕ) (sign : Record) (less : List Fork) (other : Progress)
-        → Made layout (left_of x) x.slots slots x.progress last (Halted why line) → Moves layout y sign less other → ⊥
+    pub halts_alone : (slots : List ℤ) (last : SerialProgress) (why : StopWhy) (line : ℕ) (sign : Record) (less : List Fork) (other : SerialProgress)
+        → RanPart layout (stand_left x) x.slots slots x.progress last (Halted why line) → Moves layout y sign less other → ⊥
     halts_alone slots last why line sign less other m n =
         let one = halts_so program start records forks x h slots last why line layout log m in
         let yours = move_shows y sign less other g n in
@@ -314,8 +317,8 @@ module _ (layout : ElementLayout) (log : layout.bound ≡ OfLog) (program : Prog
         (add_alike (records ++ m.added) (records ++ n.makes.added) m.added (n.makes.added ++ yours.later) one.0 yours.records_are))
 
     -- two stops
-    pub same_halt : (slots slots' : List ℤ) (last other : Progress) (why why' : Stop) (line line' : ℕ)
-        → (m : Made layout (left_of x) x.slots slots x.progress last (Halted why line)) (n : Made layout (left_of y) y.slots slots' y.progress other (Halted why' line'))
+    pub same_halt : (slots slots' : List ℤ) (last other : SerialProgress) (why why' : StopWhy) (line line' : ℕ)
+        → (m : RanPart layout (stand_left x) x.slots slots x.progress last (Halted why line)) (n : RanPart layout (stand_left y) y.slots slots' y.progress other (Halted why' line'))
         → (n.added ≡ m.added) × (Stopped why' line' ≡ Stopped why line)
     same_halt slots slots' last other why why' line line' m n =
         let one = halts_so program start records forks x h slots last why line layout log m in
@@ -328,7 +331,7 @@ module _ (layout : ElementLayout) (log : layout.bound ≡ OfLog) (program : Prog
         (both.0, sym two.1 ∙ (both.1 ∙ one.1))
 
     -- one record too many for the whole run, and a move
-    module _ (slots : List ℤ) (last : Progress) (line : ℕ) (m : Made (bounded layout) (left_of x) x.slots slots x.progress last (Halted LogFull line)) (none : last.left ≡ 0) (below : last.count < log_limit)
+    module _ (slots : List ℤ) (last : SerialProgress) (line : ℕ) (m : RanPart (bounded layout) (stand_left x) x.slots slots x.progress last (Halted LogFull line)) (none : last.left ≡ 0) (below : last.count < record_limit)
         (lefts : y.progress.left ≡ x.progress.left) where
       beyond : GoesOn (state_with slots (records ++ m.added) (forks ++ []) (room_of OfRun x.progress - length m.added) [] []) (traced program start (records ++ m.added))
       beyond = goes_beyond program start records forks x h layout slots last line m none below
@@ -336,7 +339,7 @@ module _ (layout : ElementLayout) (log : layout.bound ≡ OfLog) (program : Prog
       later_are : (state_of (traced program start (records ++ m.added))).records ≡ records ++ (m.added ++ beyond.more)
       later_are = beyond.records_are ∙ append_assoc records m.added beyond.more
 
-      pub long_or_move : (sign : Record) (less : List Fork) (other : Progress) → Moves layout y sign less other → ⊥
+      pub long_or_move : (sign : Record) (less : List Fork) (other : SerialProgress) → Moves layout y sign less other → ⊥
       long_or_move sign less other n =
           let yours = move_shows y sign less other g n in
           let a = ending_of (traced program start (records ++ m.added)) in
@@ -349,7 +352,7 @@ module _ (layout : ElementLayout) (log : layout.bound ≡ OfLog) (program : Prog
           (subst (λ (l : List Record). GoAlike a b (m.added ++ beyond.more) (l ++ yours.later)) n.makes.added_is
           (add_alike (records ++ m.added) (records ++ n.makes.added) (m.added ++ beyond.more) (n.makes.added ++ yours.later) later_are yours.records_are))
 
-      pub long_or_halt : (slots' : List ℤ) (other : Progress) (why : Stop) (at : ℕ) → Made layout (left_of y) y.slots slots' y.progress other (Halted why at) → ⊥
+      pub long_or_halt : (slots' : List ℤ) (other : SerialProgress) (why : StopWhy) (at : ℕ) → RanPart layout (stand_left y) y.slots slots' y.progress other (Halted why at) → ⊥
       long_or_halt slots' other why at n =
           let two = halts_so program start records forks y g slots' other why at layout log n in
           let a = ending_of (traced program start (records ++ m.added)) in

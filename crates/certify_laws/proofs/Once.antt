@@ -2,6 +2,7 @@
 use Rattle.std.proofs.Common.{◌≡◌, refl, ap, ap₂, sym, ◌∙◌, subst, inl, inr, ℕ, suc, ◌+◌, ◌-◌, ◌<◌, ◌≤◌, List, [], ◌∷◌, ◌++◌, length, get_or, ℤ, arith, All, Option, Some, None}
 use Rattle.std.specs.List.{AllZip, flat_map}
 use Rattle.std.proofs.lemmas.List.Elements.{All-head, All-tail}
+use Rattle.log_format.specs.Limit.{record_limit}
 use Rattle.sw_base.specs.declared.path.Step.{Step}
 use Rattle.race_model.specs.Listing.{lane_of}
 use Rattle.log_format.specs.declared.record.Record.{Record}
@@ -12,22 +13,22 @@ use Rattle.kernel_syntax.specs.Program.{Program}
 use Rattle.kernel_syntax.specs.Tree.{TeamTree}
 use Rattle.kernel_model.specs.Effect.{Halted, state_with}
 use Rattle.kernel_model.specs.State as model
+use Rattle.kernel_model.specs.declared.stop.StopWhy.{StopWhy}
+use Rattle.kernel_model.specs.declared.stop.StopWhy.TheVariants as reason
 use Rattle.kernel_model.specs.State.{Fork, event, put, after, state_of, reads_of, chunks_of}
-use Rattle.kernel_model.specs.Trace.{Start, Ending, Stopped, log_limit, run, site_of, task}
+use Rattle.kernel_model.specs.Trace.{Start, Ending, Stopped, run, site_of, task}
 use Rattle.kernel_model.specs.Value.{Site}
 use Rattle.certainty_model.specs.Certain.{IsFixed}
 use Rattle.certainty_model.proofs.Pairs.{FixedFork}
 use Rattle.kernel_model.proofs.Steps.{Part}
-use Rattle.serial_run.specs.Going.{Progress, room_of, Finds, Gains, Made}
+use Rattle.serial_run.specs.Going.{SerialProgress, room_of, Finds, Gains, RanPart}
 use Rattle.serial_run.specs.Placing.{Bound, OfLog, ElementLayout}
-use Rattle.serial_run.specs.Stepping.{Stand, Leads, Advances, Finishes, left_of}
+use Rattle.serial_run.specs.Stepping.{Stand, Leads, Advances, Finishes, stand_left}
 use Rattle.serial_team.specs.declared.member.Stage.{Stage}
 use Rattle.serial_team.specs.declared.member.Stage.TheVariants as stage
-use Rattle.serial_team.specs.declared.stop.StopWhy.{StopWhy}
-use Rattle.serial_team.specs.declared.stop.StopWhy.TheVariants as why
 use Rattle.serial_team.specs.Members.{Pool, pool_at, WholeLog, MemberValue, later, amid, path_in, logs_at, logs_of_member, BeginsLane, BeginTeam}
 use Rattle.serial_team.specs.Running.{past_region}
-use Rattle.serial_team.specs.Stopping.{StopAt, why_of, bounded}
+use Rattle.serial_team.specs.Stopping.{StopAt, bounded}
 use Rattle.certify_laws.proofs.GoAlike.{AreSized, sized_both}
 use Rattle.certify_laws.proofs.Moving.{HasCome, IsMark, Moves, finds_sized, has_come, halts_alone, left_grows, leave_once, long_or_halt, long_or_move, nothing_grows, same_added, same_forks, same_halt, same_mark}
 use Rattle.certify_laws.proofs.Doing.{LaneEnd, Stands, Fails, Breaks, PhaseEnd, Went, Broke, TeamEnd, AllStand, OneFails, OneBreaks, with_lane, with_stop, LaneDoes, RegionDoes, TeamDoes, OthersDo, PhasesDo}
@@ -150,13 +151,13 @@ module _ (program : Program) where
 
 -- ---- a task that goes on
 
-record SameProgress (p q : Progress) : Type 0 where
+record SameProgress (p q : SerialProgress) : Type 0 where
   log : q.log ≡ p.log
   count : q.count ≡ p.count
   pool : pool_of q.words q.left ≡ pool_of p.words p.left
 
 module _ (layout : ElementLayout) where
-  gains_same : (x y new other : Progress) (added also : List Record) → y.log ≡ x.log → y.count ≡ x.count → pool_of y.words y.left ≡ pool_of x.words x.left → also ≡ added → Gains layout x new added → Gains layout y other also → SameProgress new other
+  gains_same : (x y new other : SerialProgress) (added also : List Record) → y.log ≡ x.log → y.count ≡ x.count → pool_of y.words y.left ≡ pool_of x.words x.left → also ≡ added → Gains layout x new added → Gains layout y other also → SameProgress new other
   gains_same x y new other added also log count pool same g h = record {
     log = h.log ∙ (ap₂ (λ (l : List ℕ) (rs : List Record). l ++ flat_map spelling rs) log same ∙ sym g.log);
     count = let many : length also ≡ length added = ap length same in omega (arith, h.count, g.count, count, many);
@@ -167,8 +168,8 @@ module _ (layout : ElementLayout) where
   }
 
 module _ (layout : ElementLayout) (log : layout.bound ≡ OfLog) where
-  log_leads : (a b : Progress) (p q : Part) (l k : List ℤ) (added : List Record) (forks : List Fork) → Leads p l (room_of layout.bound a) q k (room_of layout.bound b) added forks
-      → Leads p l (log_limit - a.count) q k (log_limit - b.count) added forks
+  log_leads : (a b : SerialProgress) (p q : Part) (l k : List ℤ) (added : List Record) (forks : List Fork) → Leads p l (room_of layout.bound a) q k (room_of layout.bound b) added forks
+      → Leads p l (record_limit - a.count) q k (record_limit - b.count) added forks
   log_leads a b p q l k added forks leads = subst (λ (bound : Bound). Leads p l (room_of bound a) q k (room_of bound b) added forks) log leads
 
   barrier_mark : (line : ℕ) → IsMark (event kind.Barrier line 0 0)
@@ -181,14 +182,14 @@ module _ (layout : ElementLayout) (log : layout.bound ≡ OfLog) where
   region_mark line span is = elim is [ inl e ↦ cc | inr e ↦ cc ]
 
   abbrev barrier_moves : (x y : Stand) (line : ℕ) → Advances layout x y (event kind.Barrier line 0 0 ∷ []) [] → Moves layout x (event kind.Barrier line 0 0) [] y.progress
-  barrier_moves x y line a = record { makes = a.makes; is = barrier_mark line; part = left_of y; slots = y.slots; leads = log_leads x.progress y.progress (left_of x) (left_of y) x.slots y.slots a.makes.added _ a.leads; grows = left_grows y }
+  barrier_moves x y line a = record { makes = a.makes; is = barrier_mark line; part = stand_left y; slots = y.slots; leads = log_leads x.progress y.progress (stand_left x) (stand_left y) x.slots y.slots a.makes.added _ a.leads; grows = left_grows y }
 
   abbrev end_moves : (x y : Stand) → Finishes layout x y → Moves layout x (event kind.End x.end 0 0) [] y.progress
-  end_moves x y f = record { makes = f.makes; is = end_mark x.end; part = λ s. model.Gives tt s; slots = y.slots; leads = log_leads x.progress y.progress (left_of x) (λ s. model.Gives tt s) x.slots y.slots f.makes.added [] f.leads; grows = nothing_grows }
+  end_moves x y f = record { makes = f.makes; is = end_mark x.end; part = λ s. model.Gives tt s; slots = y.slots; leads = log_leads x.progress y.progress (stand_left x) (λ s. model.Gives tt s) x.slots y.slots f.makes.added [] f.leads; grows = nothing_grows }
 
   abbrev fork_moves : (x y : Stand) (team : TeamTree) → Advances layout x y (event kind.Region team.line 0 team.span ∷ []) (record { team = team; slots = y.slots } ∷ [])
       → Moves layout x (event kind.Region team.line 0 team.span) (record { team = team; slots = y.slots } ∷ []) y.progress
-  fork_moves x y team a = record { makes = a.makes; is = region_mark team.line team.span; part = left_of y; slots = y.slots; leads = log_leads x.progress y.progress (left_of x) (left_of y) x.slots y.slots a.makes.added _ a.leads; grows = left_grows y }
+  fork_moves x y team a = record { makes = a.makes; is = region_mark team.line team.span; part = stand_left y; slots = y.slots; leads = log_leads x.progress y.progress (stand_left x) (stand_left y) x.slots y.slots a.makes.added _ a.leads; grows = left_grows y }
 
   module _ (program : Program) (x y : MemberValue) (alike : Alike program x y) (pools : pool_at y.stand ≡ pool_at x.stand) where
     abbrev s : StandAlike program x.stand y.stand
@@ -197,7 +198,7 @@ module _ (layout : ElementLayout) (log : layout.bound ≡ OfLog) where
     words : y.stand.progress.words ≡ x.stand.progress.words
     words = ap (λ (p : Pool). p.words) pools
 
-    module _ (mark sign : Record) (more less : List Fork) (new other : Progress) (m : Moves layout x.stand mark more new) (n : Moves layout y.stand sign less other) where
+    module _ (mark sign : Record) (more less : List Fork) (new other : SerialProgress) (m : Moves layout x.stand mark more new) (n : Moves layout y.stand sign less other) where
       mark_once : sign ≡ mark
       mark_once = same_mark layout log program s.start s.fixed s.records s.forks s.sized x.stand y.stand s.one s.other words mark sign more less new other m n
 
@@ -216,38 +217,38 @@ module _ (layout : ElementLayout) (log : layout.bound ≡ OfLog) where
       records = s.records ++ a.makes.added;
       sized = sized_both s.records a.makes.added s.sized (finds_sized layout a.makes.added x.stand.progress.words u.progress.words a.makes.gains.finds);
       forks = s.forks ++ more;
-      one = has_come program s.start s.records s.forks x.stand s.one u a.makes.added more a.at a.makes.gains.count (log_leads x.stand.progress u.progress (left_of x.stand) (left_of u) x.stand.slots u.slots a.makes.added more a.leads);
+      one = has_come program s.start s.records s.forks x.stand s.one u a.makes.added more a.at a.makes.gains.count (log_leads x.stand.progress u.progress (stand_left x.stand) (stand_left u) x.stand.slots u.slots a.makes.added more a.leads);
       other = subst (λ (rs : List Record). HasCome program s.start (s.records ++ rs) (s.forks ++ more) v) added
           (subst (λ (fs : List Fork). HasCome program s.start (s.records ++ b.makes.added) (s.forks ++ fs) v) forks
-          (has_come program s.start s.records s.forks y.stand s.other v b.makes.added less b.at b.makes.gains.count (log_leads y.stand.progress v.progress (left_of y.stand) (left_of v) y.stand.slots v.slots b.makes.added less b.leads)));
+          (has_come program s.start s.records s.forks y.stand s.other v b.makes.added less b.at b.makes.gains.count (log_leads y.stand.progress v.progress (stand_left y.stand) (stand_left v) y.stand.slots v.slots b.makes.added less b.leads)));
     }
 
     -- a stop and a move, either way round
-    module _ (slots : List ℤ) (last : Progress) (w : model.Stop) (line : ℕ) (mark : Record) (more : List Fork) (new : Progress) where
-      stop_or_move : Made layout (left_of x.stand) x.stand.slots slots x.stand.progress last (Halted w line) → Moves layout y.stand mark more new → ⊥
+    module _ (slots : List ℤ) (last : SerialProgress) (w : StopWhy) (line : ℕ) (mark : Record) (more : List Fork) (new : SerialProgress) where
+      stop_or_move : RanPart layout (stand_left x.stand) x.stand.slots slots x.stand.progress last (Halted w line) → Moves layout y.stand mark more new → ⊥
       stop_or_move = halts_alone layout log program s.start s.fixed s.records s.forks s.sized x.stand y.stand s.one s.other words slots last w line mark more new
 
-      move_or_stop : Moves layout x.stand mark more new → Made layout (left_of y.stand) y.stand.slots slots y.stand.progress last (Halted w line) → ⊥
+      move_or_stop : Moves layout x.stand mark more new → RanPart layout (stand_left y.stand) y.stand.slots slots y.stand.progress last (Halted w line) → ⊥
       move_or_stop m n = halts_alone layout log program s.start s.fixed s.records s.forks s.sized y.stand x.stand s.other s.one (sym words) slots last w line mark more new n m
 
     -- a record too many and something else, either way round
-    module _ (slots : List ℤ) (last : Progress) (line : ℕ) (mark : Record) (more : List Fork) (new : Progress) where
+    module _ (slots : List ℤ) (last : SerialProgress) (line : ℕ) (mark : Record) (more : List Fork) (new : SerialProgress) where
       lefts : y.stand.progress.left ≡ x.stand.progress.left
       lefts = ap (λ (p : Pool). p.left) pools
 
-      break_or_move : (m : Made (bounded layout) (left_of x.stand) x.stand.slots slots x.stand.progress last (Halted model.LogFull line)) → last.left ≡ 0 → last.count < log_limit → Moves layout y.stand mark more new → ⊥
+      break_or_move : (m : RanPart (bounded layout) (stand_left x.stand) x.stand.slots slots x.stand.progress last (Halted reason.LogFull line)) → last.left ≡ 0 → last.count < record_limit → Moves layout y.stand mark more new → ⊥
       break_or_move m none below = long_or_move layout log program s.start s.fixed s.records s.forks s.sized x.stand y.stand s.one s.other words slots last line m none below lefts mark more new
 
-      move_or_break : Moves layout x.stand mark more new → (m : Made (bounded layout) (left_of y.stand) y.stand.slots slots y.stand.progress last (Halted model.LogFull line)) → last.left ≡ 0 → last.count < log_limit → ⊥
+      move_or_break : Moves layout x.stand mark more new → (m : RanPart (bounded layout) (stand_left y.stand) y.stand.slots slots y.stand.progress last (Halted reason.LogFull line)) → last.left ≡ 0 → last.count < record_limit → ⊥
       move_or_break n m none below = long_or_move layout log program s.start s.fixed s.records s.forks s.sized y.stand x.stand s.other s.one (sym words) slots last line m none below (sym lefts) mark more new n
 
-    module _ (slots ends : List ℤ) (last end : Progress) (line k : ℕ) (w : model.Stop) where
-      break_or_stop : (m : Made (bounded layout) (left_of x.stand) x.stand.slots slots x.stand.progress last (Halted model.LogFull line)) → last.left ≡ 0 → last.count < log_limit
-          → Made layout (left_of y.stand) y.stand.slots ends y.stand.progress end (Halted w k) → ⊥
+    module _ (slots ends : List ℤ) (last end : SerialProgress) (line k : ℕ) (w : StopWhy) where
+      break_or_stop : (m : RanPart (bounded layout) (stand_left x.stand) x.stand.slots slots x.stand.progress last (Halted reason.LogFull line)) → last.left ≡ 0 → last.count < record_limit
+          → RanPart layout (stand_left y.stand) y.stand.slots ends y.stand.progress end (Halted w k) → ⊥
       break_or_stop m none below = long_or_halt layout log program s.start s.fixed s.records s.forks s.sized x.stand y.stand s.one s.other words slots last line m none below (ap (λ (p : Pool). p.left) pools) ends end w k
 
-      stop_or_break : Made layout (left_of x.stand) x.stand.slots ends x.stand.progress end (Halted w k)
-          → (m : Made (bounded layout) (left_of y.stand) y.stand.slots slots y.stand.progress last (Halted model.LogFull line)) → last.left ≡ 0 → last.count < log_limit → ⊥
+      stop_or_break : RanPart layout (stand_left x.stand) x.stand.slots ends x.stand.progress end (Halted w k)
+          → (m : RanPart (bounded layout) (stand_left y.stand) y.stand.slots slots y.stand.progress last (Halted reason.LogFull line)) → last.left ≡ 0 → last.count < record_limit → ⊥
       stop_or_break n m none below = long_or_halt layout log program s.start s.fixed s.records s.forks s.sized y.stand x.stand s.other s.one (sym words) slots last line m none below (sym (ap (λ (p : Pool). p.left) pools)) ends end w k n
 
     -- lanes that stand there
@@ -308,9 +309,9 @@ module _ (program : Program) (team : TeamTree) (slots : List ℤ) (fixed : IsFix
     at = b.at;
     count = b.none;
     leads = λ reads chunks.
-        let st = state_with x.stand.slots [] [] (log_limit - x.stand.progress.count) reads chunks in
+        let st = state_with x.stand.slots [] [] (record_limit - x.stand.progress.count) reads chunks in
         let none = b.none in
-        let room : log_limit ≡ log_limit - x.stand.progress.count = omega (arith, none) in
+        let room : record_limit ≡ record_limit - x.stand.progress.count = omega (arith, none) in
         ap₂ (λ (l : List ℤ) (k : ℕ). after (run (site_of program (start_of n)) team.body (state_with l [] [] k reads chunks)) (put (event kind.End team.end 0 0))) (sym b.locals) room
         ∙ (ap (λ (w : Site). after (run w team.body st) (put (event kind.End team.end 0 0))) (sym b.at) ∙ sym (b.whole st));
   }
@@ -361,10 +362,10 @@ module _ (layout : ElementLayout) where
     stop_of : List Step → ℕ → StopWhy → StopAt
     stop_of path line w = record { path = path; line = line; why = w }
 
-    stop_same : (w v : model.Stop) (line k : ℕ) → Stopped v k ≡ Stopped w line → (v ≡ w) × (k ≡ line)
+    stop_same : (w v : StopWhy) (line k : ℕ) → Stopped v k ≡ Stopped w line → (v ≡ w) × (k ≡ line)
     stop_same w v line k same = (ap why_in same, ap line_in same)
       where
-        why_in : Ending → model.Stop
+        why_in : Ending → StopWhy
         why_in (Stopped why line) = why
         why_in _ = w
 
@@ -436,7 +437,7 @@ module _ (layout : ElementLayout) where
           let both = same_halt layout log program s.start s.fixed s.records s.forks s.sized x.stand y.stand s.one s.other words slots slots' last last' w v line k m n in
           let p = gains_same layout x.stand.progress y.stand.progress last last' m.added n.added alike.same.log alike.same.count pools both.0 m.gains n.gains in
           let why = stop_same w v line k both.1 in
-          (p.pool, λ i. record { path = same i; line = why.1 i; why = why_of (why.0 i) })
+          (p.pool, λ i. record { path = same i; line = why.1 i; why = why.0 i })
       lane_once _ _ _ _ _ _ (LaneDoes.forks path x u team xs e z a begin phases rest) (LaneDoes.forks other y v also ys f w b start' does more) same alike pools =
           let k = fork_once layout log program x y alike pools u v team also a b in
           region_once path other x y u v team also e f z w rest more same k.team_is k.logs k.stands
@@ -499,7 +500,7 @@ module _ (layout : ElementLayout) where
       region_once _ _ _ _ _ _ _ _ _ _ _ _ (RegionDoes.fails path x u team p first) (RegionDoes.fails other y v also q second) same team_is logs stands ends = ends
       region_once _ _ _ _ _ _ _ _ _ _ _ _ (RegionDoes.broken path x u team long) (RegionDoes.broken other y v also longer) same team_is logs stands ends = ends
       region_once _ _ _ _ _ _ _ _ _ _ _ _ (RegionDoes.many path x u team xs p most) (RegionDoes.many other y v also ys q more) same team_is logs stands ends =
-          (ends.1, λ i. record { path = same i; line = (team_is i).line; why = why.Tasks })
+          (ends.1, λ i. record { path = same i; line = (team_is i).line; why = reason.Tasks })
       region_once _ _ _ _ _ _ _ _ _ _ _ _ (RegionDoes.onward path x u team xs p z few rest) (RegionDoes.onward other y v also ys q w less more) same team_is logs stands ends =
           lane_once path other (past_region path x u xs p) (past_region other y v ys q) z w rest more same (past_alike path other x y u v xs ys p q same logs stands ends.0)
           (ap (λ (r : Pool). pool_of r.words r.left) ends.1)

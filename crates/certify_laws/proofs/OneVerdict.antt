@@ -23,12 +23,12 @@ use Rattle.serial_team.specs.Members.{WholeLog}
 use Rattle.serial_team.specs.Stopping.{LongAt, StopAt}
 use Rattle.serial_laws.specs.SerialRuns.{spelled}
 use Rattle.serial_run.specs.Placing.{ElementLayout}
-use Rattle.serial_team.specs.declared.stop.StopWhy.{StopWhy}
+use Rattle.kernel_model.specs.declared.stop.StopWhy.{StopWhy}
 use Rattle.certify_laws.proofs.Root.{one_long, one_run, one_stop, run_or_long, run_or_stop, stop_or_long}
 use Rattle.certify.specs.declared.certifying.TheConstants.{MOST_RECORDS}
 use Rattle.certify.specs.declared.verdict.Verdict.{Verdict}
 use Rattle.certify.specs.declared.verdict.Verdict.TheVariants as verdict
-use Rattle.certify.specs.Verdicts.{AreCompared, HasCertainRun, HasRaces, OpensOneTooMany, RunsTo, Tells, element_layout, records_in}
+use Rattle.certify.specs.Verdicts.{AreCompared, HasCertainRun, HasRaces, OpensOneTooMany, RunsTo, Tells, element_layout, record_total}
 use Rattle.certify_laws.specs.Same.{SayTheSame}
 use Rattle.certify_laws.proofs.TooMany.{bad_there, same_first}
 
@@ -101,7 +101,7 @@ module _ (program : Program) (lawful : IsLawful program) where
   certain_once n m k l words final a b =
       let same = same_run a.tasks b.tasks words final a.runs b.runs a.compared.files b.compared.files a.compared.dir b.compared.dir a.compared.holds b.compared.holds in (
         b.count_is ∙ (ap (λ (trace : Trace). length trace) same ∙ sym a.count_is),
-        b.records_are ∙ (ap (λ (trace : Trace). records_in trace) same ∙ sym a.records_are),
+        b.records_are ∙ (ap (λ (trace : Trace). record_total trace) same ∙ sym a.records_are),
         (runs_once a.tasks b.tasks words final a.runs b.runs).1,
       )
 

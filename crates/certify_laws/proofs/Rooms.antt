@@ -14,14 +14,16 @@ use Rattle.race_model.specs.Trace.{is_region_kind}
 use Rattle.kernel_model.specs.Drawing.{turn_from}
 use Rattle.kernel_model.specs.Growth.{Grows}
 use Rattle.kernel_model.specs.Iterations.{total_of, even_iterations, static_iterations, chunk_count, chunk_iterations}
-use Rattle.kernel_model.specs.State.{State, Stop, Outcome, Gives, Stops, Wants, LogFull, DivZero, Index, and_then, after, put, put_in, event, assign, state_of}
+use Rattle.kernel_model.specs.State.{State, Outcome, Gives, Stops, Wants, and_then, after, put, put_in, event, assign, state_of}
+use Rattle.kernel_model.specs.declared.stop.StopWhy.{StopWhy}
+use Rattle.kernel_model.specs.declared.stop.StopWhy.TheVariants.{LogFull, DivZero, Index}
 use Rattle.kernel_model.specs.Trace.{amount_of, branch, changed, turns, each, drawn, draw, draw_in, draws, shared, loop_end, forked, run}
 use Rattle.kernel_model.specs.Value.{Site, Element, element_at, access, read, read_in, loaded, operated, value}
 use Rattle.kernel_model.proofs.Growing.{grows-plain, run-grows}
 use Rattle.kernel_model.proofs.Steps.{Part, kept-and_then, kept-draws, kept-drawn, kept-loaded}
 use Rattle.serial_run.specs.declared.frame.Frame.{Frame}
 use Rattle.serial_run.specs.declared.frame.Frame.TheVariants as frame
-use Rattle.serial_run.specs.Resting.{dealt_from, part_of, rest_of}
+use Rattle.serial_run.specs.Resting.{dealt_from, frame_part, frames_rest}
 use Rattle.certify_laws.proofs.Growing.{put_grows}
 
 -- the state with this room
@@ -41,7 +43,7 @@ pub record GoesOn {A : Type 0} (c : State) (o : Outcome A) : Type 0 where
 -- The first has less room. Both end alike, or its room is used up and the other goes on from there.
 pub data Rooms {A : Type 0} : Outcome A → Outcome A → Type 0 where
   gives : (a : A) (c : State) (k l : ℕ) → k < l → Rooms (Gives a (roomy k c)) (Gives a (roomy l c))
-  stops : (why : Stop) (line : ℕ) (c : State) (k l : ℕ) → (why ≡ LogFull → ⊥) → Rooms (Stops why line (roomy k c)) (Stops why line (roomy l c))
+  stops : (why : StopWhy) (line : ℕ) (c : State) (k l : ℕ) → (why ≡ LogFull → ⊥) → Rooms (Stops why line (roomy k c)) (Stops why line (roomy l c))
   wants : (c : State) (k l : ℕ) → Rooms (Wants (roomy k c)) (Wants (roomy l c))
   full : (line : ℕ) (c : State) (o : Outcome A) → GoesOn c o → Rooms (Stops LogFull line c) o
 
@@ -92,7 +94,7 @@ then-run part next first later = subst Roomy (λ i s. after_is (part s) next i) 
 gives-roomy : {A : Type 0} (a : A) → Roomy (λ s. Gives a s)
 gives-roomy a = record { grows = grows-plain.same; rooms = λ c k l less. Rooms.gives a c k l less }
 
-stops-roomy : {A : Type 0} (why : Stop) (line : ℕ) → (why ≡ LogFull → ⊥) → Roomy {A = A} (λ s. Stops why line s)
+stops-roomy : {A : Type 0} (why : StopWhy) (line : ℕ) → (why ≡ LogFull → ⊥) → Roomy {A = A} (λ s. Stops why line s)
 stops-roomy why line other = record { grows = grows-plain.same; rooms = λ c k l less. Rooms.stops why line c k l other }
 
 -- ---- single records
@@ -300,7 +302,7 @@ run-roomy at (Critical mutex line end body rest) =
 
 -- ---- what is left of a task
 
-frame-roomy : (at : Site) (f : Frame) → Roomy (part_of at f)
+frame-roomy : (at : Site) (f : Frame) → Roomy (frame_part at f)
 frame-roomy at (frame.Statements stmts) = run-roomy at (code_of stmts.now)
 frame-roomy at (frame.Turns body slot next end) =
     turns-roomy (total_of next end) 0 (turn_from at (code_of body.now.stmts.items) slot next) (λ i. assigned-roomy slot (next +ℤ pos i) (run at (code_of body.now.stmts.items)) (run-roomy at (code_of body.now.stmts.items)))
@@ -309,9 +311,9 @@ frame-roomy at (frame.Chunks body slot from to chunk next) =
     (λ i. assigned-roomy slot (from +ℤ pos i) (run at (code_of body.now.stmts.items)) (run-roomy at (code_of body.now.stmts.items)))
 frame-roomy at (frame.Barrier line) = bar-roomy line
 
-pub rest-roomy : (at : Site) (rest : List Frame) (then' : Part) → Roomy then' → Roomy (rest_of at rest then')
+pub rest-roomy : (at : Site) (rest : List Frame) (then' : Part) → Roomy then' → Roomy (frames_rest at rest then')
 rest-roomy at [] then' last = last
-rest-roomy at (f ∷ above) then' last = rest-roomy at above (λ t. after (part_of at f t) then') (then-run (part_of at f) then' (frame-roomy at f) last)
+rest-roomy at (f ∷ above) then' last = rest-roomy at above (λ t. after (frame_part at f t) then') (then-run (frame_part at f) then' (frame-roomy at f) last)
 
 -- a part that stops as its room is used up goes on where there is more
 pub goes_past : (m o : Outcome (Unit {0})) (line : ℕ) (s : State) → m ≡ Stops LogFull line s → Rooms m o → GoesOn s o

@@ -6,7 +6,7 @@ use Rattle.kernel_syntax.specs.Program.{Program}
 use Rattle.certainty_model.specs.Certain.{IsFixed}
 use Rattle.serial_run.specs.Placing.{ElementLayout, OfLog}
 use Rattle.serial_team.specs.Members.{Pool, WholeLog, MemberValue, BeginsLane, later}
-use Rattle.serial_team.specs.Running.{RanRoot}
+use Rattle.serial_team.specs.Running.{DidRoot}
 use Rattle.serial_team.specs.Stopping.{LongAt, RootLong, RootStopped, StopAt}
 use Rattle.certify_laws.proofs.Doing.{Breaks, Fails, LaneDoes, LaneEnd, Stands, lane_long, lane_runs, lane_stops}
 use Rattle.certify_laws.proofs.Once.{SameEnd, alike_later, begin_alike, lane_once, member_logs}
@@ -24,11 +24,11 @@ module _ (layout : ElementLayout) (log : layout.bound ≡ OfLog) (program : Prog
       lane_once layout log program [] [] (later x first_pool) (later y first_pool) e f one other refl
       (alike_later program x y first_pool first_pool (begin_alike program program.main (replicate program.slots (pos 0)) fixed 0 x y b c)) refl
 
-  module _ (logs : List WholeLog) (words : List ℕ) (r : RanRoot layout program left logs words) where
+  module _ (logs : List WholeLog) (words : List ℕ) (r : DidRoot layout program left logs words) where
     runs : LaneDoes layout [] (later r.before first_pool) (Stands r.after)
     runs = lane_runs layout [] (later r.before first_pool) r.work r.after r.runs
 
-    pub one_run : (others : List WholeLog) (final : List ℕ) → RanRoot layout program left others final → (others ≡ logs) × (final ≡ words)
+    pub one_run : (others : List WholeLog) (final : List ℕ) → DidRoot layout program left others final → (others ≡ logs) × (final ≡ words)
     one_run others final s =
         let same = root_once r.before s.before (Stands r.after) (Stands s.after) r.begins s.begins runs (lane_runs layout [] (later s.before first_pool) s.work s.after s.runs) in
         (s.logs_are ∙ (member_logs program [] [] r.after s.after refl same.0.same ∙ sym r.logs_are), s.words_are ∙ (ap (λ (p : Pool). p.words) same.1 ∙ sym r.words_are))

@@ -15,7 +15,7 @@ pub record PartInLanes (path other : List Step) (level : ℕ) : Type 0 where
   pub two_lanes : step.lane ≡ beside.lane → ⊥
 
 -- in the lane below this level, the record or the Region through which it hangs comes after so many barriers
-pub record HasPassed (logs : Logs) (x : Node) (level barriers : ℕ) : Type 0 where
+pub record ComesAfterBarriers (logs : Logs) (x : Node) (level barriers : ℕ) : Type 0 where
   pub above : Node
   pub part : IsAbove logs above x
   pub deep : length above.path ≡ level + 1
@@ -26,5 +26,5 @@ pub record PartBetweenBarriers (logs : Logs) (x y : Node) : Type 0 where
   pub level : ℕ
   pub barriers : ℕ
   pub parts : PartInLanes x.path y.path level
-  pub mine : HasPassed logs x level barriers
-  pub yours : HasPassed logs y level barriers
+  pub mine : ComesAfterBarriers logs x level barriers
+  pub yours : ComesAfterBarriers logs y level barriers

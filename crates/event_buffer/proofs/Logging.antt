@@ -12,7 +12,7 @@ use Rattle.log_format.specs.declared.record.Record.{Record}
 use Rattle.log_format.specs.Spelling.{spelling, log_bytes}
 use Rattle.log_format.proofs.Records.{length-spelling}
 use Rattle.flush_writer.specs.Held.{Held, settled_text}
-use Rattle.event_buffer.specs.Buffered.{Buffered, HasRoom, IsTornBy, IsRefusedBy, buffered, flushed, caught_up}
+use Rattle.event_buffer.specs.Buffered.{Buffered, FitsRecord, IsTornBy, IsRefusedBy, buffered, flushed, caught_up}
 use Rattle.event_buffer.specs.Logged.{joined, due, IsTorn, IsFilled, HoldsRecords, HasAll, KeepsPrefix}
 use Rattle.event_buffer.proofs.Cuts.{one_more, one_away, cut_is, cut_last, kept_full}
 
@@ -65,7 +65,7 @@ logs_begin header dir path log size eight empty h waiting is none =
     subst (λ w. HoldsRecords header (buffered h w 0) []) (sym none)
     (subst (λ (k : Held). HoldsRecords header (buffered k [] 0) []) (sym is) (begin_logs header dir path log size eight empty))
 
-put_logs : (header : List ℕ) (b : Buffered) (records : List Record) (r : Record) → HasRoom b → HoldsRecords header b records
+put_logs : (header : List ℕ) (b : Buffered) (records : List Record) (r : Record) → FitsRecord b → HoldsRecords header b records
     → HoldsRecords header (record b { waiting = b.waiting ++ spelling r; count = b.count + 1 }) (records ++ r ∷ [])
 put_logs header b records r room h =
     let f = h.filled in
@@ -95,7 +95,7 @@ put_logs header b records r room h =
       };
     }
 
-pub logs_put : (header : List ℕ) (old new : Buffered) (records : List Record) (r : Record) → HasRoom old
+pub logs_put : (header : List ℕ) (old new : Buffered) (records : List Record) (r : Record) → FitsRecord old
     → new ≡ record old { waiting = old.waiting ++ spelling r; count = old.count + 1 } → HoldsRecords header old records → HoldsRecords header new (records ++ r ∷ [])
 logs_put header old new records r room is h = subst (λ b. HoldsRecords header b (records ++ r ∷ [])) (sym is) (put_logs header old records r room h)
 
@@ -248,7 +248,7 @@ module _ (header : List ℕ) (old : Buffered) (records : List Record) (h : Holds
         };
       }
 
-      flushed_logs : (HasRoom old → ⊥) → HoldsRecords header (flushed old) records
+      flushed_logs : (FitsRecord old → ⊥) → HoldsRecords header (flushed old) records
       flushed_logs none =
           let all : f.rest ≡ records_in old.size = omega (arith, f.waiting, f.most, none) in
           record {
@@ -272,7 +272,7 @@ module _ (header : List ℕ) (old : Buffered) (records : List Record) (h : Holds
       pub logs_caught_up : (new : Buffered) → new ≡ caught_up old → HoldsRecords header new records
       logs_caught_up new is = subst (λ b. HoldsRecords header b records) (sym is) caught_up_logs
 
-      pub logs_flushed : (new : Buffered) → (HasRoom old → ⊥) → new ≡ flushed old → HoldsRecords header new records
+      pub logs_flushed : (new : Buffered) → (FitsRecord old → ⊥) → new ≡ flushed old → HoldsRecords header new records
       logs_flushed new none is = subst (λ b. HoldsRecords header b records) (sym is) (flushed_logs none)
 
       -- the log has all records after its last piece, and else a prefix

@@ -23,14 +23,14 @@ pub record Buffered : Type 0 where
   pub refused : Option Trouble
 
 -- the bytes of one more record fit
-abbrev pub HasRoom : Buffered → Type 0
-HasRoom b = length b.waiting + 24 ≤ b.size
+abbrev pub FitsRecord : Buffered → Type 0
+FitsRecord b = length b.waiting + 24 ≤ b.size
 
 -- one more record may be put
 pub record MayPut (b : Buffered) : Type 0 where
   pub unrefused : b.refused ≡ None
   pub below : b.count < record_limit
-  pub room : HasRoom b
+  pub room : FitsRecord b
 
 -- what was sent is a piece of the log now
 abbrev pub caught_up : Buffered → Buffered

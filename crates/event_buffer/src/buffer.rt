@@ -7,7 +7,7 @@ ghost use Rattle.log_format.specs.Limit.{record_limit};
 ghost use Rattle.log_format.specs.declared.record.Record.{Record};
 ghost use Rattle.log_format.specs.Spelling.{spelling};
 ghost use Rattle.sw_base.specs.Environment.{WhereTold, HasCause, Rose, TearsPiece, empty_text, with_piece};
-ghost use Rattle.event_buffer.specs.Buffered.{HasRoom, MayPut, IsTornBy, IsRefusedBy, IsStill, CountsFault, flushed, caught_up};
+ghost use Rattle.event_buffer.specs.Buffered.{FitsRecord, MayPut, IsTornBy, IsRefusedBy, IsStill, CountsFault, flushed, caught_up};
 ghost use Rattle.event_buffer.specs.Logged.{HoldsRecords, HasAll, KeepsPrefix};
 
 use crate::fault::BufferFault;
@@ -88,8 +88,8 @@ impl<L: Log> Buffer<L> {
         alloc: Global,
     ) -> Result<(), BufferFault>
         ensures ready { OnOk result (MayPut self.new) }
-        ensures room { HasRoom self.old → self.new ≡ self.old }
-        ensures flushed { (HasRoom self.old → ⊥) → OnOk result (self.new ≡ flushed self.old) }
+        ensures room { FitsRecord self.old → self.new ≡ self.old }
+        ensures flushed { (FitsRecord self.old → ⊥) → OnOk result (self.new ≡ flushed self.old) }
 
         ensures full { IsErrOf result BufferFault.LogFull ↔ ((self.old.refused ≡ None) × (record_limit ≤ self.old.count)) }
         ensures full_same { IsErrOf result BufferFault.LogFull → self.new ≡ self.old }
@@ -211,7 +211,7 @@ impl<L: Log> Buffer<L> {
     // Whether the bytes of one more record fit.
     #[inline(always)]
     fn has_room(&self) -> bool
-        ensures { IsTrue result ↔ HasRoom self.now }
+        ensures { IsTrue result ↔ FitsRecord self.now }
     {
         match &self.block {
             Some(block) => block.size() - block.len() >= RECORD_SIZE,

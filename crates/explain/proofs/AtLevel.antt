@@ -14,18 +14,18 @@ use Rattle.race_model.proofs.TraceLogs.{find_task}
 use Rattle.race_laws.proofs.FolderForkJoin.{fork_join}
 use Rattle.race_laws.proofs.FolderRules.{parted}
 use Rattle.counted_order.specs.Counting.{IsAbove}
-use Rattle.counted_order.specs.Parting.{PartInLanes, HasPassed}
+use Rattle.counted_order.specs.Parting.{PartInLanes, ComesAfterBarriers}
 use Rattle.counted_order.proofs.Above.{HangsFrom, split, same_level}
 use Rattle.counted_order.proofs.Parted.{Level, level}
 use Rattle.counted_order.proofs.Paths.{HangsAt, hangs_path, region_above, same_front, unordered_parts, parts_unordered}
 use Rattle.explain.specs.Finding.{IsFound, FindsMarked}
-use Rattle.explain.specs.Witness.{IsLaneAbove, HoldsGoodRun}
+use Rattle.explain.specs.Witness.{IsLaneAbove, HoldsListedRun}
 use Rattle.explain.specs.declared.finding.Found.{Found}
 use Rattle.explain.specs.declared.finding.Mark.TheVariants as mark
 use Rattle.explain.proofs.Logs.{LogOf, row_at, seam, front, tells}
 
 -- the record itself is in the lane
-pub itself_passed : (logs : Logs) (x : Node) (depth own : ℕ) → depth < length x.path → length x.path ≤ depth + 1 → own ≡ barriers_before logs x → HasPassed logs x depth own
+pub itself_passed : (logs : Logs) (x : Node) (depth own : ℕ) → depth < length x.path → length x.path ≤ depth + 1 → own ≡ barriers_before logs x → ComesAfterBarriers logs x depth own
 itself_passed logs x depth own deep last is = record { above = x; part = IsAbove.itself x; deep = omega arith; passed = sym is }
 
 -- the Region through which a record hangs
@@ -57,7 +57,7 @@ record ListsLane (rows : List Row) (path : List Step) (depth : ℕ) : Type 0 whe
   listed : slice_get rows place ≡ Some row
   lane : IsLaneAbove path depth row.path
 
-module _ (content : Content) (dir : List ℕ) (rows : List Row) (trace : Trace) (run : HoldsGoodRun content dir rows trace) where
+module _ (content : Content) (dir : List ℕ) (rows : List Row) (trace : Trace) (run : HoldsListedRun content dir rows trace) where
   pub tree : IsForkJoin (logs_of trace)
   tree = fork_join trace run.keeps
 
@@ -88,7 +88,7 @@ module _ (content : Content) (dir : List ℕ) (rows : List Row) (trace : Trace) 
     first_is : lane.under.first ≡ step
     first_is = step_there x.path row.path lane.under.first lane.under.rest (depth + 1) step lane.under.parts lane.deep is_step
 
-    found_passed : (found : Found) → IsFound (mark.Region region) log.task.records found → HasPassed (logs_of trace) x depth found.barriers
+    found_passed : (found : Found) → IsFound (mark.Region region) log.task.records found → ComesAfterBarriers (logs_of trace) x depth found.barriers
     found_passed found f =
         let a : Node = record { path = log.task.path; index = length f.before } in
         let told = tells content dir trace place row log (mark.Region region) found f in
@@ -122,9 +122,9 @@ module _ (content : Content) (dir : List ℕ) (rows : List Row) (trace : Trace) 
         none (take t.above.index log.task.records) (drop (suc t.above.index) log.task.records) event (parted log.task.records t.above.index event found) (t.hangs.region.kind_is, regions)
 
     pub region_passed : (answer : Option Found) (n : Option ℕ) → FindsMarked (mark.Region region) log.task.records answer → MatchOption answer (n ≡ None) (λ (one : Found). n ≡ Some one.barriers)
-        → IsSomeAnd n (HasPassed (logs_of trace) x depth)
+        → IsSomeAnd n (ComesAfterBarriers (logs_of trace) x depth)
     region_passed None n none is = absurd (not_none none)
-    region_passed (Some found) n f is = subst (λ (o : Option ℕ). IsSomeAnd o (HasPassed (logs_of trace) x depth)) (sym is) (found_passed found f)
+    region_passed (Some found) n f is = subst (λ (o : Option ℕ). IsSomeAnd o (ComesAfterBarriers (logs_of trace) x depth)) (sym is) (found_passed found f)
 
 -- the same of paths that are equal
 pub exact_at : (parts : Option ℕ) (p q path other : List Step) → path ≡ p → other ≡ q → ((depth : ℕ) → (parts ≡ Some depth) ↔ PartInLanes p q depth)
@@ -132,7 +132,7 @@ pub exact_at : (parts : Option ℕ) (p q path other : List Step) → path ≡ p 
 exact_at parts p q path other e f exact depth =
     subst (λ (r : List Step). (parts ≡ Some depth) ↔ PartInLanes r other depth) (sym e) (subst (λ (r : List Step). (parts ≡ Some depth) ↔ PartInLanes p r depth) (sym f) (exact depth))
 
-passed_once : (logs : Logs) (x : Node) (depth n m : ℕ) → HasPassed logs x depth n → HasPassed logs x depth m → n ≡ m
+passed_once : (logs : Logs) (x : Node) (depth n m : ℕ) → ComesAfterBarriers logs x depth n → ComesAfterBarriers logs x depth m → n ≡ m
 passed_once logs x depth n m p q = sym p.passed ∙ (ap (barriers_before logs) (same_level logs p.above q.above x p.part q.part (p.deep ∙ sym q.deep)) ∙ q.passed)
 
 module _ (logs : Logs) (x y : Node) (tree : IsForkJoin logs) (x_there : IsThere logs x) (y_there : IsThere logs y) (parts : Option ℕ)
@@ -143,7 +143,7 @@ module _ (logs : Logs) (x y : Node) (tree : IsForkJoin logs) (x_there : IsThere 
       let some : parts ≡ Some p.level = (exact p.level).1 p.parts in
       cc
 
-  pub told_unordered : (depth : ℕ) → parts ≡ Some depth → (mine yours : Option ℕ) → IsSomeAnd mine (HasPassed logs x depth) → IsSomeAnd yours (HasPassed logs y depth)
+  pub told_unordered : (depth : ℕ) → parts ≡ Some depth → (mine yours : Option ℕ) → IsSomeAnd mine (ComesAfterBarriers logs x depth) → IsSomeAnd yours (ComesAfterBarriers logs y depth)
       → (so : Bool) → IsTrue so ↔ ((n : ℕ) × (mine ≡ Some n) × (yours ≡ Some n)) → IsTrue so ↔ IsUnordered logs x y
   told_unordered depth is None yours mine_passed yours_passed so as_many = absurd mine_passed
   told_unordered depth is (Some n) None mine_passed yours_passed so as_many = absurd yours_passed
@@ -155,11 +155,11 @@ module _ (logs : Logs) (x y : Node) (tree : IsForkJoin logs) (x_there : IsThere 
           barriers = n;
           parts = (exact depth).0 is;
           mine = mine_passed;
-          yours = subst (λ (k : ℕ). HasPassed logs y depth k) same yours_passed;
+          yours = subst (λ (k : ℕ). ComesAfterBarriers logs y depth k) same yours_passed;
         }),
     λ u. let p = unordered_parts logs x y tree x_there y_there u in
         let depths : p.level ≡ depth = same_Some p.level depth (sym ((exact p.level).1 p.parts) ∙ is) in
-        let mine = passed_once logs x depth n p.barriers mine_passed (subst (λ (d : ℕ). HasPassed logs x d p.barriers) depths p.mine) in
-        let yours = passed_once logs y depth m p.barriers yours_passed (subst (λ (d : ℕ). HasPassed logs y d p.barriers) depths p.yours) in
+        let mine = passed_once logs x depth n p.barriers mine_passed (subst (λ (d : ℕ). ComesAfterBarriers logs x d p.barriers) depths p.mine) in
+        let yours = passed_once logs y depth m p.barriers yours_passed (subst (λ (d : ℕ). ComesAfterBarriers logs y d p.barriers) depths p.yours) in
         as_many.1 (p.barriers, ap Some mine, ap Some yours),
   )

@@ -12,9 +12,9 @@ use Rattle.race_model.specs.Trace.{Trace, Node, logs_of}
 use Rattle.explain.specs.Least.{FindsLeast, FindsHit, FindsRace, HasNoPartner, IsFirstPartner, IsFirstRace, IsUpTo, IsWitness, RacesOn}
 use Rattle.explain.specs.Witness.{IsInLog}
 use Rattle.explain.specs.declared.explaining.RacePair.{RacePair}
-use Rattle.explain.specs.declared.passing.Place.{Place}
+use Rattle.explain.specs.declared.passing.ReadPlace.{ReadPlace}
 use Rattle.explain.specs.declared.searching.Hit.{Hit}
-use Rattle.explain.specs.declared.searching.Partner.{Partner}
+use Rattle.explain.specs.declared.searching.FoundPartner.{FoundPartner}
 use Rattle.explain.proofs.Logs.{row_at}
 use Rattle.explain.proofs.Scanning.{Scans, next_node, next_in_log, number_of, scans_all}
 use Rattle.explain.proofs.Witnesses.{named_once}
@@ -26,7 +26,7 @@ IsNoHit trace lines x y = (byte : ℕ) → RacesOn (logs_of trace) lines x y byt
 not_less : (a b : ℕ) → (a < b → ⊥) → b ≤ a
 not_less a b never = elim (cases_order a b) [ inl same ↦ omega (arith, same) | inr (inl less) ↦ absurd (never less) | inr (inr above) ↦ omega (arith, above) ]
 
-module _ {c : Content} {trace : Trace} {at : ℕ} {reading : Reading} {place : Place} (lines : ℕ × ℕ) where
+module _ {c : Content} {trace : Trace} {at : ℕ} {reading : Reading} {place : ReadPlace} (lines : ℕ × ℕ) where
   module _ (x : Node) (s : Scans c trace at reading place (IsNoHit trace lines x)) where
     pub hit_here : (hit : Hit) → hit.number ≡ place.records + 1 → RacesOn (logs_of trace) lines x (next_node s) hit.byte → FindsHit trace lines x at (Some hit)
     hit_here hit number races = record {
@@ -41,7 +41,7 @@ module _ {c : Content} {trace : Trace} {at : ℕ} {reading : Reading} {place : P
     no_hit after gives y byte in_y races = scans_all s after gives y in_y (record_there (logs_of trace) y races.s races.race.right) byte races
 
   module _ (s : Scans c trace at reading place (HasNoPartner trace lines at)) where
-    pub race_here : (found : RacePair) (partner : Partner) → found.first_row ≡ at + 1 → found.first ≡ place.records + 1
+    pub race_here : (found : RacePair) (partner : FoundPartner) → found.first_row ≡ at + 1 → found.first ≡ place.records + 1
         → partner ≡ record { row = found.second_row; hit = record { number = found.second; byte = found.byte } } → IsFirstPartner trace lines at (next_node s) partner → FindsRace trace lines at (Some found)
     race_here found partner row number same first = record {
       x = next_node s;

@@ -12,8 +12,8 @@ use Rattle.race_model.specs.Listing.{IsListing}
 use Rattle.race_model.specs.Trace.{Trace, logs_of}
 use Rattle.stride_summary.specs.declared.key.Key.{Key}
 use Rattle.stride_summary.specs.declared.run.Run.{Run}
-use Rattle.explain.specs.Suspects.{HasPart, HoldAccesses, IsAmong, IsOnLines, Keeps}
-use Rattle.explain.specs.declared.stretch.Stretch.{Stretch}
+use Rattle.explain.specs.Suspects.{HasPart, HoldAccesses, IsAmong, IsOnLines, KeepsRuns}
+use Rattle.explain.specs.declared.stretch.RecordRange.{RecordRange}
 use Rattle.explain.proofs.Own.{AreOfRun, has_own}
 
 -- more is kept
@@ -31,18 +31,18 @@ part_more own run old new more h = record {
 pub part_again : {own other : Segment} (run : Run) (kept : List Segment) → own ≡ other → HasPart own run kept → HasPart other run kept
 part_again run kept e h = subst (λ (s : Segment). HasPart s run kept) e h
 
-pub keeps_more : (lines : ℕ × ℕ) (all region old new : List Segment) → ((part : Segment) → Contains old part → Contains new part) → Keeps (IsOnLines lines) all old → Keeps (IsOnLines lines) region new
-    → Keeps (IsOnLines lines) (all ++ region) new
+pub keeps_more : (lines : ℕ × ℕ) (all region old new : List Segment) → ((part : Segment) → Contains old part → Contains new part) → KeepsRuns (IsOnLines lines) all old → KeepsRuns (IsOnLines lines) region new
+    → KeepsRuns (IsOnLines lines) (all ++ region) new
 keeps_more lines all region old new more before now own run own_in run_in on = elim (Contains-append_cases all region own own_in) [
   | inl earlier ↦ part_more own run old new more (before own run earlier run_in on)
   | inr later ↦ now own run later run_in on
 ]
 
-pub among_more : (their : Segment) (old new : List Stretch) → ((s : Stretch) → Contains old s → Contains new s) → IsAmong their old → IsAmong their new
+pub among_more : (their : Segment) (old new : List RecordRange) → ((s : RecordRange) → Contains old s → Contains new s) → IsAmong their old → IsAmong their new
 among_more their old new more h = record { stretch = h.stretch; listed = more h.stretch h.listed; path_is = h.path_is; first_is = h.first_is; last_is = h.last_is }
 
 -- what is kept has each access of the lines
-pub holds_accesses : (trace : Trace) (lines : ℕ × ℕ) (all kept : List Segment) → KeepsRules FORMAT trace → AreOfRun trace all → Keeps (IsOnLines lines) all kept → HoldAccesses trace lines kept
+pub holds_accesses : (trace : Trace) (lines : ℕ × ℕ) (all kept : List Segment) → KeepsRules FORMAT trace → AreOfRun trace all → KeepsRuns (IsOnLines lines) all kept → HoldAccesses trace lines kept
 holds_accesses trace lines all kept rules are keeps place x r at found access on =
     let lists = subst IsListing (paths_same trace) rules.rows.lists in
     let mine = has_own trace all place x r are at (logs_at trace lists place at.task at.listed) found access in

@@ -25,8 +25,8 @@ use Rattle.race_laws.proofs.FolderForkJoin.{paths_same}
 use Rattle.race_laws.proofs.FolderRules.{parted}
 use Rattle.race_laws.proofs.ListedOnce.{logs_at}
 use Rattle.counted_order.proofs.Paths.{length_front}
-use Rattle.explain.specs.Finding.{AreNested, IsFound, HasNone, FindsMarked}
-use Rattle.explain.specs.Witness.{IsInLog, TellsRecord, FindsNamed, HoldsGoodRun}
+use Rattle.explain.specs.Finding.{EachMayFollow, IsFound, HasNone, FindsMarked}
+use Rattle.explain.specs.Witness.{IsInLog, TellsRecord, FindsNamed, HoldsListedRun}
 use Rattle.explain.specs.declared.finding.Found.{Found}
 use Rattle.explain.specs.declared.finding.Mark.{Mark}
 use Rattle.explain.specs.declared.finding.Mark.TheVariants as mark
@@ -44,7 +44,7 @@ pub front : {X : Type 0} (xs before after : List X) (x : X) (k : ℕ) → xs ≡
 front xs before after x k parts e = ap (take k) parts ∙ (ap (λ n. take n (before ++ x ∷ after)) (sym e) ∙ take-append_seam before (x ∷ after))
 
 -- the records of a task that keeps the rules may follow one another
-nested : (trace : Trace) (task : TaskLog) → TaskKeepsRules FORMAT trace task → AreNested task.records
+nested : (trace : Trace) (task : TaskLog) → TaskKeepsRules FORMAT trace task → EachMayFollow task.records
 nested trace task k before after r parts = record {
   numbered = lock_fits r address;
   named = unlock_fits r address;
@@ -73,10 +73,10 @@ pub record LogOf (content : Content) (dir : List ℕ) (trace : Trace) (place : �
   pub path_is : row.path ≡ task.path
   pub whole : IsWholeLog FORMAT content.held dir row.path task.records
   pub counted : row.records ≡ length task.records
-  pub may_follow : AreNested task.records
+  pub may_follow : EachMayFollow task.records
   pub logs_are : logs_of trace task.path ≡ task.records
 
-pub log_of : (content : Content) (dir : List ℕ) (rows : List Row) (trace : Trace) → HoldsGoodRun content dir rows trace → (place : ℕ) (row : Row) → slice_get rows place ≡ Some row
+pub log_of : (content : Content) (dir : List ℕ) (rows : List Row) (trace : Trace) → HoldsListedRun content dir rows trace → (place : ℕ) (row : Row) → slice_get rows place ≡ Some row
     → LogOf content dir trace place row
 log_of content dir rows trace run place row found =
     let at = task_in trace place row (ap (λ (l : List Row). slice_get l place) run.rows_are ∙ found) in

@@ -5,13 +5,13 @@ use Rattle.sw_base.specs.Environment.{Content}
 use Rattle.log_format.specs.declared.record.Record.{Record}
 use Rattle.log_reader.specs.Reading.{Reading, StandsBefore, GivesNext}
 use Rattle.race_laws.proofs.LabelPlace.{HasLast, has_last}
-use Rattle.explain.specs.Finding.{IsPlaceAfter, MayFollow, AreNested, IsMarked, HasNone, FindsMarked}
+use Rattle.explain.specs.Finding.{IsPlaceAfter, MayFollow, EachMayFollow, IsMarked, HasNone, FindsMarked}
 use Rattle.explain.specs.declared.finding.Found.{Found}
 use Rattle.explain.specs.declared.finding.Mark.{Mark}
-use Rattle.explain.specs.declared.passing.Place.{Place}
+use Rattle.explain.specs.declared.passing.ReadPlace.{ReadPlace}
 
 -- the first of the records were passed, and none of them is the one that is looked for
-pub record Passed (c : Content) (which : Mark) (reading : Reading) (place : Place) (events : List Record) : Type 0 where
+pub record Passed (c : Content) (which : Mark) (reading : Reading) (place : ReadPlace) (events : List Record) : Type 0 where
   pub given : List Record
   pub left : List Record
   pub parts : events ≡ given ++ left
@@ -19,7 +19,7 @@ pub record Passed (c : Content) (which : Mark) (reading : Reading) (place : Plac
   pub after : IsPlaceAfter place given
   pub none : HasNone which given
 
-module _ (c : Content) (which : Mark) (reading : Reading) (place : Place) (events : List Record) (p : Passed c which reading place events) where
+module _ (c : Content) (which : Mark) (reading : Reading) (place : ReadPlace) (events : List Record) (p : Passed c which reading place events) where
   -- the record is the next one
   pub record IsNext (r : Record) (after : Reading) : Type 0 where
     pub rest : List Record
@@ -53,7 +53,7 @@ module _ (c : Content) (which : Mark) (reading : Reading) (place : Place) (event
           (parts ∙ (ap (λ (t : List Record). before ++ q ∷ t) l.parts ∙ sym (append_assoc before (q ∷ l.prefix) (l.last ∷ [])))) in
           p.none before l.prefix q both.0 marked
 
-  pub passed_next : (r : Record) (after : Reading) (new : Place) → GivesNext c p.left (Some r) after → AreNested events → (IsMarked which p.given r → ⊥)
+  pub passed_next : (r : Record) (after : Reading) (new : ReadPlace) → GivesNext c p.left (Some r) after → EachMayFollow events → (IsMarked which p.given r → ⊥)
       → (MayFollow place.held r → IsPlaceAfter new (p.given ++ r ∷ [])) → Passed c which after new events
   passed_next r after new gives nested not_this goes =
       let next = is_next r after gives in

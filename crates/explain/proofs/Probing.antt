@@ -25,7 +25,7 @@ use Rattle.explain.specs.Least.{FindsLeast, FindsRace, RacesOn}
 use Rattle.explain.specs.Suspects.{FindsMet, HasOwn, HoldAccesses, HoldPartners, IsOnLines, MayMeet}
 use Rattle.explain.specs.Witness.{IsInLog, TellsRecord}
 use Rattle.explain.specs.declared.finding.Found.{Found}
-use Rattle.explain.specs.declared.stretch.Stretch.{Stretch}
+use Rattle.explain.specs.declared.stretch.RecordRange.{RecordRange}
 
 -- a run of this key at this address, alone
 alone : (run : Run) (key : Key) (address : ℕ) → run_key run ≡ key → HasRunAddress run address → HasPair (run ∷ []) key address
@@ -126,7 +126,7 @@ module _ (trace : Trace) (lines : ℕ × ℕ) (segments : List Segment) (keeps :
       never o.own o.their o.own_in o.their_in (within.path_is ∙ path_of x in_x) (racing trace lines x y byte keeps races o.own o.their o.mine o.yours)
 
   -- those that race with a record are in the intervals that it meets
-  pub holds_partners : (place : ℕ) (x : Node) (one : Found) (path : List Step) (number : ℕ) (met : List Stretch) → IsInLog trace place x → TellsRecord (logs_of trace) x one → x.path ≡ path → number ≡ x.index + 1
+  pub holds_partners : (place : ℕ) (x : Node) (one : Found) (path : List Step) (number : ℕ) (met : List RecordRange) → IsInLog trace place x → TellsRecord (logs_of trace) x one → x.path ≡ path → number ≡ x.index + 1
       → FindsMet segments path number one lines met → HoldPartners trace lines x met
   holds_partners place x one path number met in_x tells path_is number_is finds other y byte in_y races =
       let o = are_own place other x y byte in_x in_y races in

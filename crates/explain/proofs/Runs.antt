@@ -14,7 +14,7 @@ use Rattle.race_model.specs.FirstBad.{HoldsTrace}
 use Rattle.race_model.specs.Row.{Row}
 use Rattle.race_model.specs.Trace.{Trace}
 use Rattle.explain.specs.Finding.{IsNoPlace}
-use Rattle.explain.specs.Witness.{HoldsGoodRun, WalksFolder}
+use Rattle.explain.specs.Witness.{HoldsListedRun, WalksFolder}
 use Rattle.explain.proofs.Answering.{on_ok_of}
 
 module _ {told : Option Content} {dir : List ℕ} {sweep : Sweep} {all : Trace} (swept : HasSweptAll FORMAT told dir sweep all) (x : Content) (is : told ≡ Some x) where
@@ -22,9 +22,9 @@ module _ {told : Option Content} {dir : List ℕ} {sweep : Sweep} {all : Trace} 
   pub same_trace : (trace : Trace) → HoldsTrace FORMAT x.held dir trace → trace ≡ all
   same_trace trace holds = trace_once x.held dir trace all holds (swept.holds x is)
 
-  pub good_run : (rows : List Row) → sweep.rows ≡ rows → (trace : Trace) → HoldsTrace FORMAT x.held dir trace → HoldsGoodRun x dir rows trace
+  pub good_run : (rows : List Row) → sweep.rows ≡ rows → (trace : Trace) → HoldsTrace FORMAT x.held dir trace → HoldsListedRun x dir rows trace
   good_run rows same trace holds =
-      subst (λ (t : Trace). HoldsGoodRun x dir rows t) (sym (same_trace trace holds))
+      subst (λ (t : Trace). HoldsListedRun x dir rows t) (sym (same_trace trace holds))
       (record { keeps = swept.keeps; logs = (swept.holds x is).logs; rows_are = swept.completes.rows_are ∙ same })
 
 no_place : (told : Option Content) (dir : List ℕ) (e : WalkFault) → IsNoPlace e → WhereTold told (λ c. TellsFirstBad FORMAT c.held dir e)

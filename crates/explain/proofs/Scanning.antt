@@ -11,18 +11,18 @@ use Rattle.race_laws.proofs.LabelPlace.{same_node}
 use Rattle.race_model.specs.Race.{held_after}
 use Rattle.race_model.specs.Row.{Row}
 use Rattle.race_model.specs.Trace.{TaskLog, Trace, Node, IsThere, logs_of, barrier_count}
-use Rattle.explain.specs.Finding.{AreNested, IsPlaceAfter, MayFollow}
+use Rattle.explain.specs.Finding.{EachMayFollow, IsPlaceAfter, MayFollow}
 use Rattle.explain.specs.Witness.{IsInLog, TellsRecord}
 use Rattle.explain.specs.declared.finding.Found.{Found}
-use Rattle.explain.specs.declared.passing.Place.{Place}
+use Rattle.explain.specs.declared.passing.ReadPlace.{ReadPlace}
 use Rattle.explain.proofs.Logs.{LogOf, seam, front}
 
 -- the first records of the log of this place were passed, and each has a property
-pub record Scans (c : Content) (trace : Trace) (at : ℕ) (reading : Reading) (place : Place) (N : Node → Type 0) : Type 0 where
+pub record Scans (c : Content) (trace : Trace) (at : ℕ) (reading : Reading) (place : ReadPlace) (N : Node → Type 0) : Type 0 where
   pub task : TaskLog
   pub listed : slice_get trace at ≡ Some task
   pub log_is : logs_of trace task.path ≡ task.records
-  pub may_follow : AreNested task.records
+  pub may_follow : EachMayFollow task.records
   pub given : List Record
   pub left : List Record
   pub parts : task.records ≡ given ++ left
@@ -31,7 +31,7 @@ pub record Scans (c : Content) (trace : Trace) (at : ℕ) (reading : Reading) (p
   pub each : (y : Node) → IsInLog trace at y → y.index < length given → N y
 
 -- before the first one
-pub scans_none : {c : Content} {dir : List ℕ} {trace : Trace} {at : ℕ} {row : Row} {reading : Reading} {place : Place} (log : LogOf c dir trace at row) (N : Node → Type 0)
+pub scans_none : {c : Content} {dir : List ℕ} {trace : Trace} {at : ℕ} {row : Row} {reading : Reading} {place : ReadPlace} (log : LogOf c dir trace at row) (N : Node → Type 0)
     → StandsBefore c reading log.task.records → IsPlaceAfter place [] → Scans c trace at reading place N
 scans_none log N stands after = record {
   task = log.task;
@@ -46,7 +46,7 @@ scans_none log N stands after = record {
   each = λ y in_log within. absurd (omega (arith, within));
 }
 
-module _ {c : Content} {trace : Trace} {at : ℕ} {reading : Reading} {place : Place} {N : Node → Type 0} (s : Scans c trace at reading place N) where
+module _ {c : Content} {trace : Trace} {at : ℕ} {reading : Reading} {place : ReadPlace} {N : Node → Type 0} (s : Scans c trace at reading place N) where
   -- the next record
   abbrev pub next_node : Node
   next_node = record { path = s.task.path; index = length s.given }
@@ -83,7 +83,7 @@ module _ {c : Content} {trace : Trace} {at : ℕ} {reading : Reading} {place : P
   number_of = ap (λ (n : ℕ). n + 1) s.after.records
 
   -- it has the property too
-  pub scans_next : (r : Record) (after : Reading) (new : Place) → GivesNext c s.left (Some r) after → N next_node → (MayFollow place.held r → IsPlaceAfter new (s.given ++ r ∷ [])) → Scans c trace at after new N
+  pub scans_next : (r : Record) (after : Reading) (new : ReadPlace) → GivesNext c s.left (Some r) after → N next_node → (MayFollow place.held r → IsPlaceAfter new (s.given ++ r ∷ [])) → Scans c trace at after new N
   scans_next r after new gives holds goes =
       let next = is_next r after gives in
       record {

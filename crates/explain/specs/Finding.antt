@@ -6,7 +6,7 @@ use Rattle.log_walk.specs.declared.fault.WalkFault.{WalkFault}
 use Rattle.log_walk.specs.declared.fault.WalkFault.TheVariants as fault
 use Rattle.race_model.specs.Race.{held_after}
 use Rattle.race_model.specs.Trace.{region_count, barrier_count}
-use Rattle.explain.specs.declared.passing.Place.{Place}
+use Rattle.explain.specs.declared.passing.ReadPlace.{ReadPlace}
 use Rattle.explain.specs.declared.finding.Found.{Found}
 use Rattle.explain.specs.declared.finding.Mark.{Mark}
 use Rattle.explain.specs.declared.finding.Mark.TheVariants as mark
@@ -18,14 +18,14 @@ IsNoPlace fault.Memory = Unit {0}
 IsNoPlace _ = ⊥
 
 -- these records were passed
-pub record IsPlaceAfter (place : Place) (before : List Record) : Type 0 where
+pub record IsPlaceAfter (place : ReadPlace) (before : List Record) : Type 0 where
   pub held : place.held ≡ held_after [] before
   pub records : place.records ≡ length before
   pub regions : place.regions ≡ region_count before
   pub barriers : place.barriers ≡ barrier_count before
 
 -- so many more records can be counted
-pub record CanCount (place : Place) (left : ℕ) : Type 0 where
+pub record CanCount (place : ReadPlace) (left : ℕ) : Type 0 where
   pub records : place.records + left ≤ 2 ^ 32 - 1
   pub regions : place.regions ≤ place.records
   pub barriers : place.barriers ≤ place.records
@@ -39,8 +39,8 @@ pub record MayFollow (held : List ℕ) (r : Record) : Type 0 where
   pub innermost : (r.kind ≡ Unlock) → ((outer : List ℕ) → held ≢ outer ++ r.addr ∷ []) → ⊥
 
 -- each record of a log may follow those before it
-abbrev pub AreNested : List Record → Type 0
-AreNested events = (before after : List Record) (r : Record) → events ≡ before ++ r ∷ after → MayFollow (held_after [] before) r
+abbrev pub EachMayFollow : List Record → Type 0
+EachMayFollow events = (before after : List Record) (r : Record) → events ≡ before ++ r ∷ after → MayFollow (held_after [] before) r
 
 -- the record after these is the one that is looked for: by how many records come before it, or as the Region of this number, from 0
 abbrev pub IsMarked : Mark → List Record → Record → Type 0

@@ -5,7 +5,7 @@ use Rattle.race_model.specs.Race.{IsRace}
 use Rattle.race_model.specs.Trace.{Trace, Logs, Node, logs_of}
 use Rattle.explain.specs.Witness.{IsInLog, IsLeastByte, NamesRecord}
 use Rattle.explain.specs.declared.searching.Hit.{Hit}
-use Rattle.explain.specs.declared.searching.Partner.{Partner}
+use Rattle.explain.specs.declared.searching.FoundPartner.{FoundPartner}
 use Rattle.explain.specs.declared.explaining.RacePair.{RacePair}
 
 -- two records race, first at this byte, and these are their lines, the smaller first
@@ -57,14 +57,14 @@ FindsHit trace lines x place None = (y : Node) (byte : ℕ) → IsInLog trace pl
 FindsHit trace lines x place (Some hit) = IsFirstHit trace lines x place hit
 
 -- the first record of the later rows that races with x in these lines
-pub record IsFirstPartner (trace : Trace) (lines : ℕ × ℕ) (place : ℕ) (x : Node) (partner : Partner) : Type 0 where
+pub record IsFirstPartner (trace : Trace) (lines : ℕ × ℕ) (place : ℕ) (x : Node) (partner : FoundPartner) : Type 0 where
   pub other : ℕ
   pub later : place < other
   pub row_is : partner.row ≡ other + 1
   pub first : IsFirstHit trace lines x other partner.hit
   pub least : (another : ℕ) (z : Node) (byte : ℕ) → place < another → another < other → IsInLog trace another z → RacesOn (logs_of trace) lines x z byte → ⊥
 
-abbrev pub FindsPartner : Trace → ℕ × ℕ → ℕ → Node → Option Partner → Type 0
+abbrev pub FindsPartner : Trace → ℕ × ℕ → ℕ → Node → Option FoundPartner → Type 0
 FindsPartner trace lines place x None = HasNoPartner trace lines place x
 FindsPartner trace lines place x (Some partner) = IsFirstPartner trace lines place x partner
 

@@ -14,21 +14,21 @@ use Rattle.sw_base.specs.declared.path.Step.{Step}
 use Rattle.explain.specs.Least.{RacesOn}
 use Rattle.explain.specs.Witness.{IsInLog}
 use Rattle.explain.specs.declared.finding.Found.{Found}
-use Rattle.explain.specs.declared.stretch.Stretch.{Stretch}
+use Rattle.explain.specs.declared.stretch.RecordRange.{RecordRange}
 
 -- one of the two lines
 abbrev pub IsOnLines : ℕ × ℕ → ℕ → Type 0
 IsOnLines lines line = (lines.0 ≡ line) ⊎ (lines.1 ≡ line)
 
 -- the record of this number is one of a stretch of the task's log
-pub record IsWithin (own : List Step) (first last : ℕ) (path : List Step) (number : ℕ) : Type 0 where
+pub record IsRunWithin (own : List Step) (first last : ℕ) (path : List Step) (number : ℕ) : Type 0 where
   pub path_is : own ≡ path
   pub low : first ≤ number
   pub high : number ≤ last
 
 -- the interval has the record at the node, and in its runs the access
 pub record HasOwn (logs : Logs) (x : Node) (r : Record) (own : Segment) : Type 0 where
-  pub within : IsWithin own.path own.first own.last x.path (x.index + 1)
+  pub within : IsRunWithin own.path own.first own.last x.path (x.index + 1)
   pub has : HasAccess logs own x r (key_at r (held_at logs x)) r.addr
 
 -- each access of these lines is in one of the intervals
@@ -47,8 +47,8 @@ pub record HasPart (own : Segment) (run : Run) (kept : List Segment) : Type 0 wh
   pub holds : Contains part.runs.items run
 
 -- of the intervals the runs of these lines are kept
-abbrev pub Keeps : (ℕ → Type 0) → List Segment → List Segment → Type 0
-Keeps IsOne segments kept = (own : Segment) (run : Run) → Contains segments own → Contains own.runs.items run → IsOne run.line → HasPart own run kept
+abbrev pub KeepsRuns : (ℕ → Type 0) → List Segment → List Segment → Type 0
+KeepsRuns IsOne segments kept = (own : Segment) (run : Run) → Contains segments own → Contains own.runs.items run → IsOne run.line → HasPart own run kept
 
 -- an access with the label of one interval conflicts with one of another in these lines
 pub record MayMeet (own their : Segment) (one : Found) (lines : ℕ × ℕ) : Type 0 where
@@ -56,19 +56,19 @@ pub record MayMeet (own their : Segment) (one : Found) (lines : ℕ × ℕ) : Ty
   pub conflict : (run : Run) → run_key run ≡ key_at one.event one.held → HasRunAddress run one.event.addr → IsConflictPair (run ∷ []) their.runs.items lines
 
 -- one of the stretches has the records of this interval
-pub record IsAmong (their : Segment) (stretches : List Stretch) : Type 0 where
-  pub stretch : Stretch
+pub record IsAmong (their : Segment) (stretches : List RecordRange) : Type 0 where
+  pub stretch : RecordRange
   pub listed : Contains stretches stretch
   pub path_is : stretch.path ≡ their.path
   pub first_is : stretch.first ≡ their.first
   pub last_is : stretch.last ≡ their.last
 
 -- each interval with an access that the record may race with is among the stretches, where one of the intervals has the record
-abbrev pub FindsMet : List Segment → List Step → ℕ → Found → ℕ × ℕ → List Stretch → Type 0
-FindsMet segments path number one lines stretches = (own their : Segment) → Contains segments own → Contains segments their → IsWithin own.path own.first own.last path number
+abbrev pub FindsMet : List Segment → List Step → ℕ → Found → ℕ × ℕ → List RecordRange → Type 0
+FindsMet segments path number one lines stretches = (own their : Segment) → Contains segments own → Contains segments their → IsRunWithin own.path own.first own.last path number
     → MayMeet own their one lines → IsAmong their stretches
 
 -- each record that races with x in these lines is in one of the stretches
-abbrev pub HoldPartners : Trace → ℕ × ℕ → Node → List Stretch → Type 0
+abbrev pub HoldPartners : Trace → ℕ × ℕ → Node → List RecordRange → Type 0
 HoldPartners trace lines x stretches = (place : ℕ) (y : Node) (byte : ℕ) → IsInLog trace place y → RacesOn (logs_of trace) lines x y byte
-    → (s : Stretch) × Contains stretches s × IsWithin s.path s.first s.last y.path (y.index + 1)
+    → (s : RecordRange) × Contains stretches s × IsRunWithin s.path s.first s.last y.path (y.index + 1)

@@ -59,7 +59,7 @@ FindsNamed trace place number None = (x : Node) → IsInLog trace place x → nu
 FindsNamed trace place number (Some found) = (x : Node) × IsInLog trace place x × (number ≡ x.index + 1) × TellsRecord (logs_of trace) x found
 
 -- the folder holds a run of these rows that keeps every rule
-pub record HoldsGoodRun (content : Content) (dir : List ℕ) (rows : List Row) (trace : Trace) : Type 0 where
+pub record HoldsListedRun (content : Content) (dir : List ℕ) (rows : List Row) (trace : Trace) : Type 0 where
   pub keeps : KeepsRules FORMAT trace
   pub logs : HoldsLogs FORMAT content.held dir trace
   pub rows_are : rows_of trace ≡ rows

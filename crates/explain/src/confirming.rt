@@ -2,13 +2,13 @@
 ghost use Rattle.std.specs.Prelude.{◌≡◌, ◌↔◌, ◌+◌, ◌<◌, ℕ, List, length, Some, IsTrue, IfOk, IfErr, IsErrOf, IsSomeAnd, None, MatchOption};
 ghost use Rattle.sw_base.specs.Environment.{WhereTold};
 ghost use Rattle.sw_base.specs.OnlyReads.{OnlyReads};
-ghost use Rattle.counted_order.specs.Parting.{HasPassed};
+ghost use Rattle.counted_order.specs.Parting.{ComesAfterBarriers};
 ghost use Rattle.log_format.specs.declared.format.TheConstants.{FORMAT};
 ghost use Rattle.race_model.specs.FirstBad.{HoldsTrace};
 ghost use Rattle.race_model.specs.Race.{IsUnordered};
 ghost use Rattle.race_model.specs.Trace.{Trace, Node, logs_of, IsThere, barriers_before};
 ghost use Rattle.explain.specs.Finding.{IsNoPlace};
-ghost use Rattle.explain.specs.Witness.{FindsNamed, IsConfirmed, ConflictAt, HoldsGoodRun, IsInLog, TellsRecord, WalksFolder};
+ghost use Rattle.explain.specs.Witness.{FindsNamed, IsConfirmed, ConflictAt, HoldsListedRun, IsInLog, TellsRecord, WalksFolder};
 
 use crate::conflict::conflict;
 use crate::finding::{Found, Mark, find_in_log};
@@ -43,7 +43,7 @@ fn find_named<F: Folder>(
     number: u32,
 ) -> Result<Option<Found>, WalkFault>
     requires { place < length rows.now }
-    ensures finds { WhereTold (F.state folder.old).content (λ c. (trace : Trace) → HoldsGoodRun c dir.now rows.now trace → IfOk result (FindsNamed trace place number)) }
+    ensures finds { WhereTold (F.state folder.old).content (λ c. (trace : Trace) → HoldsListedRun c dir.now rows.now trace → IfOk result (FindsNamed trace place number)) }
     ensures only_faults { IfErr result (λ e. IsNoPlace e) }
     ensures reads { OnlyReads F.Folder folder.old folder.new (IsErrOf result WalkFault.ReadFault) }
 {
@@ -75,8 +75,8 @@ fn barriers_at<F: Folder>(
 ) -> Result<Option<u32>, WalkFault>
     requires place { place < length rows.now }
     requires level { level < 4 }
-    ensures passed { WhereTold (F.state folder.old).content (λ c. (trace : Trace) → HoldsGoodRun c dir.now rows.now trace → (x : Node) → IsInLog trace place x → IsThere (logs_of trace) x
-        → level < length x.path → own ≡ barriers_before (logs_of trace) x → IfOk result (λ answer. IsSomeAnd answer (HasPassed (logs_of trace) x level))) }
+    ensures passed { WhereTold (F.state folder.old).content (λ c. (trace : Trace) → HoldsListedRun c dir.now rows.now trace → (x : Node) → IsInLog trace place x → IsThere (logs_of trace) x
+        → level < length x.path → own ≡ barriers_before (logs_of trace) x → IfOk result (λ answer. IsSomeAnd answer (ComesAfterBarriers (logs_of trace) x level))) }
     ensures only_faults { IfErr result (λ e. IsNoPlace e) }
     ensures reads { OnlyReads F.Folder folder.old folder.new (IsErrOf result WalkFault.ReadFault) }
 {
@@ -114,7 +114,7 @@ fn are_unordered<F: Folder>(
 ) -> Result<bool, WalkFault>
     requires first { first < length rows.now }
     requires second { second < length rows.now }
-    ensures unordered { WhereTold (F.state folder.old).content (λ c. (trace : Trace) → HoldsGoodRun c dir.now rows.now trace → (x y : Node) → IsInLog trace first x → IsInLog trace second y
+    ensures unordered { WhereTold (F.state folder.old).content (λ c. (trace : Trace) → HoldsListedRun c dir.now rows.now trace → (x y : Node) → IsInLog trace first x → IsInLog trace second y
         → TellsRecord (logs_of trace) x one.now → TellsRecord (logs_of trace) y other.now → IfOk result (λ yes. IsTrue yes ↔ IsUnordered (logs_of trace) x y)) }
     ensures only_faults { IfErr result (λ e. IsNoPlace e) }
     ensures reads { OnlyReads F.Folder folder.old folder.new (IsErrOf result WalkFault.ReadFault) }
@@ -146,7 +146,7 @@ pub fn race_of<F: Folder>(
 ) -> Result<Option<u64>, WalkFault>
     requires first { first < length rows.now }
     requires second { second < length rows.now }
-    ensures races { WhereTold (F.state folder.old).content (λ c. (trace : Trace) → HoldsGoodRun c dir.now rows.now trace → (x y : Node) → IsInLog trace first x → IsInLog trace second y
+    ensures races { WhereTold (F.state folder.old).content (λ c. (trace : Trace) → HoldsListedRun c dir.now rows.now trace → (x y : Node) → IsInLog trace first x → IsInLog trace second y
         → TellsRecord (logs_of trace) x one.now → TellsRecord (logs_of trace) y other.now
         → IfOk result (λ answer. (byte : ℕ) → (answer ≡ Some byte) ↔ (ConflictAt one.now other.now byte × IsUnordered (logs_of trace) x y))) }
     ensures only_faults { IfErr result (λ e. IsNoPlace e) }
@@ -175,7 +175,7 @@ fn confirm_among<F: Folder>(
     one: Name,
     other: Name,
 ) -> Result<Option<u64>, WalkFault>
-    ensures confirmed { WhereTold (F.state folder.old).content (λ c. (trace : Trace) → HoldsGoodRun c dir.now rows.now trace
+    ensures confirmed { WhereTold (F.state folder.old).content (λ c. (trace : Trace) → HoldsListedRun c dir.now rows.now trace
         → IfOk result (λ answer. (byte : ℕ) → (answer ≡ Some byte) ↔ IsConfirmed trace one.row one.number other.row other.number byte)) }
     ensures only_faults { IfErr result (λ e. IsNoPlace e) }
     ensures reads { OnlyReads F.Folder folder.old folder.new (IsErrOf result WalkFault.ReadFault) }

@@ -11,7 +11,7 @@ ghost use Rattle.race_model.specs.Trace.{Trace, logs_of};
 ghost use Rattle.explain.specs.Finding.{IsNoPlace};
 ghost use Rattle.explain.specs.Least.{FindsLeast};
 ghost use Rattle.explain.specs.Suspects.{HoldAccesses};
-ghost use Rattle.explain.specs.Witness.{HoldsGoodRun, WalksFolder};
+ghost use Rattle.explain.specs.Witness.{HoldsListedRun, WalksFolder};
 
 use crate::keeping::keep_lines;
 use crate::searching::least_race;
@@ -63,7 +63,7 @@ fn least_among<F: Folder>(
     lines: (u32, u32),
 ) -> Result<Option<RacePair>, WalkFault>
     requires few { length rows.now < 2 ^ 32 }
-    ensures explains { WhereTold (F.state folder.old).content (λ c. (trace : Trace) → HoldsGoodRun c dir.now rows.now trace → HoldAccesses trace lines segments.now
+    ensures explains { WhereTold (F.state folder.old).content (λ c. (trace : Trace) → HoldsListedRun c dir.now rows.now trace → HoldAccesses trace lines segments.now
         → IfOk result (FindsLeast trace lines)) }
     ensures only_faults { IfErr result (λ e. IsNoPlace e) }
     ensures reads { OnlyReads F.Folder folder.old folder.new (IsErrOf result WalkFault.ReadFault) }

@@ -6,9 +6,9 @@ ghost use Rattle.log_format.specs.declared.format.TheConstants.{FORMAT};
 ghost use Rattle.log_format.specs.declared.record.Record.{Record as LogRecord};
 ghost use Rattle.log_reader.specs.Reading.{StandsBefore, GivesNext};
 ghost use Rattle.race_model.specs.LogFault.{IsWholeLog};
-ghost use Rattle.explain.specs.Finding.{AreNested, FindsMarked, IsMarked, IsNoPlace, IsPlaceAfter};
+ghost use Rattle.explain.specs.Finding.{EachMayFollow, FindsMarked, IsMarked, IsNoPlace, IsPlaceAfter};
 
-use crate::passing::Place;
+use crate::passing::ReadPlace;
 use log_format::{FORMAT, Kind, Record};
 use log_index::Row;
 use log_reader::LogReader;
@@ -37,7 +37,7 @@ pub struct Found {
 }
 
 /// A record after those that were passed.
-pub fn found_at(place: &Place, event: Record) -> Found
+pub fn found_at(place: &ReadPlace, event: Record) -> Found
     ensures { result ≡ record { event = event; held = place.now.held; barriers = place.now.barriers } }
 {
     Found {
@@ -48,7 +48,7 @@ pub fn found_at(place: &Place, event: Record) -> Found
 }
 
 /// Whether the next record is the one that is looked for.
-fn is_marked(which: Mark, place: &Place, next: &Record) -> bool
+fn is_marked(which: Mark, place: &ReadPlace, next: &Record) -> bool
     ensures { (before : List LogRecord) → IsPlaceAfter place.now before → IsTrue result ↔ IsMarked which before next.now }
 {
     match which {
@@ -82,11 +82,11 @@ fn find_ahead<F: Folder>(
     which: Mark,
 ) -> Result<Option<Found>, WalkFault>
     requires { reader.old.left < 2 ^ 32 }
-    ensures finds { WhereTold (F.state folder.old).content (λ c. (events : List LogRecord) → StandsBefore c reader.old events → AreNested events → IfOk result (FindsMarked which events)) }
+    ensures finds { WhereTold (F.state folder.old).content (λ c. (events : List LogRecord) → StandsBefore c reader.old events → EachMayFollow events → IfOk result (FindsMarked which events)) }
     ensures only_faults { IfErr result (λ e. IsNoPlace e) }
     ensures reads { OnlyReads F.Folder folder.old folder.new (IsErrOf result WalkFault.ReadFault) }
 {
-    let mut place = Place::start();
+    let mut place = ReadPlace::start();
     'records: while let Some(next) = next_record(alloc, folder, reader)? {
         if is_marked(which, &place, &next) {
             return Ok(Some(Found {
@@ -127,7 +127,7 @@ pub fn find_in_log<F: Folder>(
     which: Mark,
 ) -> Result<Option<Found>, WalkFault>
     ensures finds { WhereTold (F.state folder.old).content (λ c. (events : List LogRecord) → IsWholeLog FORMAT c.held dir.now row.now.path events
-        → row.now.records ≡ length events → AreNested events → IfOk result (FindsMarked which events)) }
+        → row.now.records ≡ length events → EachMayFollow events → IfOk result (FindsMarked which events)) }
     ensures only_faults { IfErr result (λ e. IsNoPlace e) }
     ensures reads { OnlyReads F.Folder folder.old folder.new (IsErrOf result WalkFault.ReadFault) }
 {

@@ -2,7 +2,7 @@
 ghost use Rattle.std.specs.Prelude.{◌≡◌, Contains, IfOk, OnOk};
 ghost use Rattle.log_segment.specs.declared.segment.Segment.{Segment as Interval};
 ghost use Rattle.stride_summary.specs.declared.run.Run.{Run as Accesses};
-ghost use Rattle.explain.specs.Suspects.{HasPart, IsOnLines, Keeps};
+ghost use Rattle.explain.specs.Suspects.{HasPart, IsOnLines, KeepsRuns};
 
 use log_segment::Segment;
 use std::alloc::Global;
@@ -68,7 +68,7 @@ fn keep_line(
     line: u32,
     kept: &mut Vec<Segment>,
 ) -> Result<(), Memory>
-    ensures keeps { OnOk result (Keeps (λ n. n ≡ line) segments.now kept.new.items) }
+    ensures keeps { OnOk result (KeepsRuns (λ n. n ≡ line) segments.now kept.new.items) }
     ensures old { OnOk result ((part : Interval) → Contains kept.old.items part → Contains kept.new.items part) }
 {
     for segment in segments {
@@ -84,7 +84,7 @@ pub fn keep_lines(
     lines: (u32, u32),
     kept: &mut Vec<Segment>,
 ) -> Result<(), Memory>
-    ensures keeps { OnOk result (Keeps (IsOnLines lines) segments.now kept.new.items) }
+    ensures keeps { OnOk result (KeepsRuns (IsOnLines lines) segments.now kept.new.items) }
     ensures old { OnOk result ((part : Interval) → Contains kept.old.items part → Contains kept.new.items part) }
 {
     let (low, high) = lines;

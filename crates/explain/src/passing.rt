@@ -10,7 +10,7 @@ use mutex_set::Held;
 
 /// What is kept of the records that were passed.
 #[derive(Drop)]
-pub struct Place {
+pub struct ReadPlace {
     /// The mutexes that the task holds.
     pub held: Held,
     /// How many records these were.
@@ -85,13 +85,13 @@ fn with_one(count: u32, counts: bool) -> u32
     if counts { count + 1 } else { count }
 }
 
-impl Place {
+impl ReadPlace {
     /// Before the first record.
-    pub fn start() -> Place
+    pub fn start() -> ReadPlace
         ensures after { IsPlaceAfter result [] }
         ensures room { (left : ℕ) → left < 2 ^ 32 → CanCount result left }
     {
-        Place {
+        ReadPlace {
             held: Held::none(),
             records: 0,
             regions: 0,

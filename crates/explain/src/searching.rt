@@ -6,13 +6,13 @@ ghost use Rattle.race_model.specs.Trace.{Trace, Node, logs_of};
 ghost use Rattle.explain.specs.Finding.{IsNoPlace};
 ghost use Rattle.explain.specs.Least.{FindsLeast, FindsHit, FindsPartner, FindsRace, RacesOn};
 ghost use Rattle.explain.specs.Suspects.{HoldAccesses, HoldPartners};
-ghost use Rattle.explain.specs.Witness.{HoldsGoodRun, IsInLog, TellsRecord};
+ghost use Rattle.explain.specs.Witness.{HoldsListedRun, IsInLog, TellsRecord};
 
 use crate::confirming::race_of;
 use crate::explaining::RacePair;
 use crate::finding::{Found, found_at, next_record, open_log};
-use crate::passing::Place;
-use crate::stretch::{Stretch, has_path, has_record};
+use crate::passing::ReadPlace;
+use crate::stretch::{RecordRange, has_path, has_record};
 use crate::suspect::Suspect;
 use crate::suspecting::{is_row_suspected, met_by};
 use log_format::Record;
@@ -30,7 +30,7 @@ pub struct Hit {
 
 /// The same with its row, from 1.
 #[derive(Clone, Copy)]
-pub struct Partner {
+pub struct FoundPartner {
     pub row: u32,
     pub hit: Hit,
 }
@@ -62,12 +62,12 @@ fn raced<F: Folder>(
     one: &Found,
     other: &Found,
     number: u32,
-    met: &[Stretch],
+    met: &[RecordRange],
     lines: (u32, u32),
 ) -> Result<Option<u64>, WalkFault>
     requires first { first < length rows.now }
     requires second { second < length rows.now }
-    ensures races { WhereTold (F.state folder.old).content (λ c. (trace : Trace) → HoldsGoodRun c dir.now rows.now trace → (x y : Node) → IsInLog trace first x → IsInLog trace second y
+    ensures races { WhereTold (F.state folder.old).content (λ c. (trace : Trace) → HoldsListedRun c dir.now rows.now trace → (x y : Node) → IsInLog trace first x → IsInLog trace second y
         → number ≡ y.index + 1 → HoldPartners trace lines x met.now → TellsRecord (logs_of trace) x one.now → TellsRecord (logs_of trace) y other.now
         → IfOk result (λ answer. (byte : ℕ) → (answer ≡ Some byte) ↔ RacesOn (logs_of trace) lines x y byte)) }
     ensures only_faults { IfErr result (λ e. IsNoPlace e) }
@@ -93,12 +93,12 @@ fn hit_in_log<F: Folder>(
     first: usize,
     second: usize,
     one: &Found,
-    met: &[Stretch],
+    met: &[RecordRange],
     lines: (u32, u32),
 ) -> Result<Option<Hit>, WalkFault>
     requires first { first < length rows.now }
     requires second { second < length rows.now }
-    ensures finds { WhereTold (F.state folder.old).content (λ c. (trace : Trace) → HoldsGoodRun c dir.now rows.now trace → (x : Node) → IsInLog trace first x
+    ensures finds { WhereTold (F.state folder.old).content (λ c. (trace : Trace) → HoldsListedRun c dir.now rows.now trace → (x : Node) → IsInLog trace first x
         → HoldPartners trace lines x met.now → TellsRecord (logs_of trace) x one.now → IfOk result (FindsHit trace lines x second)) }
     ensures only_faults { IfErr result (λ e. IsNoPlace e) }
     ensures reads { OnlyReads F.Folder folder.old folder.new (IsErrOf result WalkFault.ReadFault) }
@@ -108,7 +108,7 @@ fn hit_in_log<F: Folder>(
         return Ok(None);
     }
     let mut reader = open_log(alloc, folder, dir, row)?;
-    let mut place = Place::start();
+    let mut place = ReadPlace::start();
     'records: while let Some(next) = next_record(alloc, folder, &mut reader)? {
         let other = found_at(&place, next);
         let number = place.records + 1;
@@ -131,12 +131,12 @@ fn partner_of<F: Folder>(
     rows: &[Row],
     first: usize,
     one: &Found,
-    met: &[Stretch],
+    met: &[RecordRange],
     lines: (u32, u32),
-) -> Result<Option<Partner>, WalkFault>
+) -> Result<Option<FoundPartner>, WalkFault>
     requires first { first < length rows.now }
     requires few { length rows.now < 2 ^ 32 }
-    ensures finds { WhereTold (F.state folder.old).content (λ c. (trace : Trace) → HoldsGoodRun c dir.now rows.now trace → (x : Node) → IsInLog trace first x
+    ensures finds { WhereTold (F.state folder.old).content (λ c. (trace : Trace) → HoldsListedRun c dir.now rows.now trace → (x : Node) → IsInLog trace first x
         → HoldPartners trace lines x met.now → TellsRecord (logs_of trace) x one.now → IfOk result (FindsPartner trace lines first x)) }
     ensures only_faults { IfErr result (λ e. IsNoPlace e) }
     ensures reads { OnlyReads F.Folder folder.old folder.new (IsErrOf result WalkFault.ReadFault) }
@@ -145,7 +145,7 @@ fn partner_of<F: Folder>(
         let hit = hit_in_log(alloc, folder, dir, rows, first, second, one, met, lines)?;
         if let Some(hit) = hit {
             let row = second as u32 + 1;
-            return Ok(Some(Partner { row, hit }));
+            return Ok(Some(FoundPartner { row, hit }));
         }
     }
     Ok(None)
@@ -162,10 +162,10 @@ fn partner_at<F: Folder>(
     number: u32,
     one: &Found,
     lines: (u32, u32),
-) -> Result<Option<Partner>, WalkFault>
+) -> Result<Option<FoundPartner>, WalkFault>
     requires first { first < length rows.now }
     requires few { length rows.now < 2 ^ 32 }
-    ensures finds { WhereTold (F.state folder.old).content (λ c. (trace : Trace) → HoldsGoodRun c dir.now rows.now trace → HoldAccesses trace lines suspects.now
+    ensures finds { WhereTold (F.state folder.old).content (λ c. (trace : Trace) → HoldsListedRun c dir.now rows.now trace → HoldAccesses trace lines suspects.now
         → (x : Node) → IsInLog trace first x → number ≡ x.index + 1 → TellsRecord (logs_of trace) x one.now → IfOk result (FindsPartner trace lines first x)) }
     ensures only_faults { IfErr result (λ e. IsNoPlace e) }
     ensures reads { OnlyReads F.Folder folder.old folder.new (IsErrOf result WalkFault.ReadFault) }
@@ -181,7 +181,7 @@ fn partner_at<F: Folder>(
     partner_of(alloc, folder, dir, rows, first, one, &met, lines)
 }
 
-fn race_pair(first: usize, number: u32, partner: Partner) -> RacePair
+fn race_pair(first: usize, number: u32, partner: FoundPartner) -> RacePair
     requires few { first < 2 ^ 32 - 1 }
     ensures first_row { result.first_row ≡ first + 1 }
     ensures first { result.first ≡ number }
@@ -209,7 +209,7 @@ fn race_in_log<F: Folder>(
 ) -> Result<Option<RacePair>, WalkFault>
     requires first { first < length rows.now }
     requires few { length rows.now < 2 ^ 32 }
-    ensures finds { WhereTold (F.state folder.old).content (λ c. (trace : Trace) → HoldsGoodRun c dir.now rows.now trace → HoldAccesses trace lines suspects.now
+    ensures finds { WhereTold (F.state folder.old).content (λ c. (trace : Trace) → HoldsListedRun c dir.now rows.now trace → HoldAccesses trace lines suspects.now
         → IfOk result (FindsRace trace lines first)) }
     ensures only_faults { IfErr result (λ e. IsNoPlace e) }
     ensures reads { OnlyReads F.Folder folder.old folder.new (IsErrOf result WalkFault.ReadFault) }
@@ -220,7 +220,7 @@ fn race_in_log<F: Folder>(
         return Ok(None);
     }
     let mut reader = open_log(alloc, folder, dir, row)?;
-    let mut place = Place::start();
+    let mut place = ReadPlace::start();
     'records: while let Some(next) = next_record(alloc, folder, &mut reader)? {
         let one = found_at(&place, next);
         let number = place.records + 1;
@@ -245,7 +245,7 @@ pub fn least_race<F: Folder>(
     lines: (u32, u32),
 ) -> Result<Option<RacePair>, WalkFault>
     requires few { length rows.now < 2 ^ 32 }
-    ensures explains { WhereTold (F.state folder.old).content (λ c. (trace : Trace) → HoldsGoodRun c dir.now rows.now trace → HoldAccesses trace lines suspects.now
+    ensures explains { WhereTold (F.state folder.old).content (λ c. (trace : Trace) → HoldsListedRun c dir.now rows.now trace → HoldAccesses trace lines suspects.now
         → IfOk result (FindsLeast trace lines)) }
     ensures only_faults { IfErr result (λ e. IsNoPlace e) }
     ensures reads { OnlyReads F.Folder folder.old folder.new (IsErrOf result WalkFault.ReadFault) }

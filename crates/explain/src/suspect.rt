@@ -3,7 +3,7 @@ ghost use Rattle.std.specs.Prelude.{◌≡◌, ◌<◌, All, ℕ, Some, IsTrue, 
 ghost use Rattle.pair_compare.specs.Compare.{IsRacingPair};
 ghost use Rattle.pair_compare.specs.Conflict.{line_pair};
 
-use crate::stretch::Stretch;
+use crate::stretch::RecordRange;
 use interval_tree::{Steps, Tree};
 use log_segment::Segment;
 use segment_groups::compare;
@@ -86,12 +86,12 @@ impl<'s> Suspect<'s> {
     }
 
     /// The records of the interval.
-    pub fn stretch(&self) -> Stretch
+    pub fn stretch(&self) -> RecordRange
         ensures path { result.path ≡ self.now.path }
         ensures first { result.first ≡ self.now.first }
         ensures last { result.last ≡ self.now.last }
     {
-        Stretch {
+        RecordRange {
             path: self.segment.path.copy(),
             first: self.segment.first,
             last: self.segment.last,

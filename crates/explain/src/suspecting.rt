@@ -4,11 +4,11 @@ ghost use Rattle.log_segment.specs.Accesses.{is_atomic, is_write, key_at};
 ghost use Rattle.log_segment.specs.declared.segment.Segment.{Segment as Interval};
 ghost use Rattle.pair_compare.specs.Compare.{IsRacingPair, IsSegmentPair};
 ghost use Rattle.stride_summary.specs.Run.{HasRunAddress, run_key};
-ghost use Rattle.explain.specs.Suspects.{FindsMet, IsAmong, IsWithin, MayMeet};
-ghost use Rattle.explain.specs.declared.stretch.Stretch.{Stretch as Records};
+ghost use Rattle.explain.specs.Suspects.{FindsMet, IsAmong, IsRunWithin, MayMeet};
+ghost use Rattle.explain.specs.declared.stretch.RecordRange.{RecordRange as Records};
 
 use crate::finding::Found;
-use crate::stretch::{Stretch, is_path, is_within};
+use crate::stretch::{RecordRange, is_path, is_within};
 use crate::suspect::{Suspect, line_of};
 use log_format::Kind;
 use log_segment::Segment;
@@ -168,7 +168,7 @@ fn add_if_met(
     alone: &Option<Segment>,
     their: &Suspect<'_>,
     lines: (u32, u32),
-    met: &mut Vec<Stretch>,
+    met: &mut Vec<RecordRange>,
 ) -> Result<(), Memory>
     ensures met { OnOk result (IfSome alone.now (λ probe. IsRacingPair probe their.now lines) → IsAmong their.now met.new.items) }
     ensures old { OnOk result ((s : Records) → Contains met.old.items s → Contains met.new.items s) }
@@ -187,7 +187,7 @@ fn add_met(
     suspects: &[Suspect<'_>],
     one: &Found,
     lines: (u32, u32),
-    met: &mut Vec<Stretch>,
+    met: &mut Vec<RecordRange>,
 ) -> Result<(), Memory>
     ensures met { OnOk result ((their : Interval) → Contains suspects.now their → MayMeet own.now their one.now lines → IsAmong their met.new.items) }
     ensures old { OnOk result ((s : Records) → Contains met.old.items s → Contains met.new.items s) }
@@ -208,9 +208,9 @@ fn add_met_within(
     number: u32,
     one: &Found,
     lines: (u32, u32),
-    met: &mut Vec<Stretch>,
+    met: &mut Vec<RecordRange>,
 ) -> Result<(), Memory>
-    ensures met { OnOk result (IsWithin own.now.path own.now.first own.now.last path.now number → (their : Interval) → Contains suspects.now their → MayMeet own.now their one.now lines → IsAmong their met.new.items) }
+    ensures met { OnOk result (IsRunWithin own.now.path own.now.first own.now.last path.now number → (their : Interval) → Contains suspects.now their → MayMeet own.now their one.now lines → IsAmong their met.new.items) }
     ensures old { OnOk result ((s : Records) → Contains met.old.items s → Contains met.new.items s) }
 {
     if !is_within(&own.path, own.first, own.last, path, number) {
@@ -227,7 +227,7 @@ pub fn met_by(
     number: u32,
     one: &Found,
     lines: (u32, u32),
-) -> Result<Vec<Stretch>, Memory>
+) -> Result<Vec<RecordRange>, Memory>
     ensures { IfOk result (λ met. FindsMet suspects.now path.now number one.now lines met.items) }
 {
     let mut met = Vec::new(alloc);

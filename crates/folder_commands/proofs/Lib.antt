@@ -1,11 +1,12 @@
+pub mod FewSegments
 pub mod FolderAnswers
 pub mod OneSummary
 pub mod OneAnswer
 pub mod OneExplanation
 pub mod OneFile
 pub mod OneReplay
+pub mod NoRefusals
 pub mod Listed
-pub mod Refusals
 pub mod Upgrades
 pub mod Confirmed
 pub mod Explained

@@ -18,6 +18,7 @@ use Rattle.log_walk.proofs.FirstOnce.{first_bad_once, row_task_once}
 use Rattle.pair_compare.proofs.Inserts.{pair_total}
 use Rattle.folder_commands.specs.Check.{NamesLog, IsPlaceText, IsRefusedFolder, FolderDue, refused, answered, HasReport}
 use Rattle.folder_commands.specs.Show.{ShowsRecords}
+use Rattle.folder_commands.proofs.FolderAnswers.{no_bad_place}
 
 not_in_nothing : (p : ℕ × ℕ) → Contains [] p → ⊥
 not_in_nothing p h = omega (arith, h.1)
@@ -93,10 +94,10 @@ refused_once format files dir s r t u a b =
 pub due_once : (answer : Trace → ℕ → List ℕ → Type 0) → ((trace : Trace) (s r : ℕ) (t u : List ℕ) → answer trace s t → answer trace r u → t ≡ u)
     → (files : Files) (dir : List ℕ) (s r : ℕ) (t u : List ℕ) → FolderDue answer files dir s t → FolderDue answer files dir r u → t ≡ u
 due_once answer once files dir s r t u (refused a) (refused b) = refused_once FORMAT files dir s r t u a b
-due_once answer once files dir s r t u (refused a) (answered trace good holds is) = absurd (good a.place a.first.bad)
-due_once answer once files dir s r t u (answered trace good holds is) (refused b) = absurd (good b.place b.first.bad)
-due_once answer once files dir s r t u (answered one _ one_holds a) (answered other _ other_holds b) =
-    once other s r t u (subst (λ (trace : Trace). answer trace s t) (trace_once files dir one other one_holds other_holds) a) b
+due_once answer once files dir s r t u (refused a) (answered trace good is) = absurd (no_bad_place files dir trace good a.place a.first.bad)
+due_once answer once files dir s r t u (answered trace good is) (refused b) = absurd (no_bad_place files dir trace good b.place b.first.bad)
+due_once answer once files dir s r t u (answered one good a) (answered other also b) =
+    once other s r t u (subst (λ (trace : Trace). answer trace s t) (trace_once files dir one other good.holds also.holds) a) b
 
 report_once : (trace : Trace) (s r : ℕ) (t u : List ℕ) → HasReport trace s t → HasReport trace r u → t ≡ u
 report_once trace s r t u a b = a.text_is ∙ ap report_text (one_list (IsRacePair (logs_of trace)) a.pairs b.pairs a.races b.races) ∙ sym b.text_is

@@ -22,6 +22,7 @@ pub use explaining::explain_lines;
 pub use generating::check_generated;
 pub use laws::{
     a_folder_has_one_confirmation, a_folder_has_one_explanation, a_replay_has_one_answer,
+    answers_are_for_runs_or_refusals,
 };
 pub use replaying::replay_file;
 pub use showing::show;

@@ -1,4 +1,4 @@
-ghost use Rattle.std.specs.Prelude.{◌≡◌, ◌≤◌, [], IfOk, IfErr, IsErrOf, OnOk};
+ghost use Rattle.std.specs.Prelude.{◌≡◌, ◌-◌, ◌^◌, ◌≤◌, min, [], IfOk, IfErr, IsErrOf, OnOk};
 ghost use Rattle.log_format.specs.declared.format.TheConstants.{FORMAT};
 ghost use Rattle.sw_base.specs.Environment.{WhereTold};
 ghost use Rattle.sw_base.specs.OnlyReads.{OnlyReads};
@@ -6,6 +6,7 @@ ghost use Rattle.log_walk.specs.Walk.{TellsFirstBad};
 ghost use Rattle.pair_compare.specs.Compare.{IsSegmentPair};
 ghost use Rattle.pair_compare.specs.Conflict.{AddsPairs};
 ghost use Rattle.folder_races.specs.Pairs.{AreFolderPairs};
+ghost use Rattle.folder_races.specs.Waiting.{most_waiting, size_of};
 
 use log_segment::Segment;
 use log_walk::{Sweep, WalkFault};
@@ -19,16 +20,20 @@ use sw_base::{Folder, Gate, Memory};
 const MOST: usize = 16_384;
 
 // How many segments and runs there are.
-fn count(segments: &[Segment]) -> usize {
-    let mut count = segments.len();
+fn count(segments: &[Segment]) -> usize
+    ensures { result ≡ min (size_of segments.now) (2 ^ 64 - 1) }
+{
+    let mut count = 0usize;
     for segment in segments {
-        count = count.saturating_add(segment.runs.len());
+        count = count.saturating_add(segment.runs.len()).saturating_add(1);
     }
     count
 }
 
 // How many may wait the next time: few at first, so that workers start early.
-fn next_limit(limit: usize) -> usize {
+fn next_limit(limit: usize) -> usize
+    ensures { result ≤ most_waiting }
+{
     limit.saturating_mul(2).saturating_add(1).min(MOST)
 }
 

@@ -21,7 +21,8 @@ use Rattle.history_model.specs.Sound.{WordLayout, IsSound, ArePhasesSound, Passe
 use Rattle.history_model.specs.Joined.{LastIsEnd, TeamEnds, PhasesEnd, IsJoined, ArePhasesJoined, IsTeamJoined}
 use Rattle.history_model.proofs.Parts.{count_cons}
 use Rattle.history_laws.proofs.TeamBarriers.{take_past, last_of}
-use Rattle.history_laws.proofs.MetBarriers.{none_before_last, team_passes, works_lane, barriers_both}
+use Rattle.history_laws.proofs.MetBarriers.{none_before_last, team_passes, works_lane}
+use Rattle.race_model.proofs.Counted.{barriers_both}
 use Rattle.history_laws.proofs.TaskTree.{AreSound, sound_regions, sound_at_step, sound_works_under, no_lane_works, lane_is, other_kind}
 use Rattle.history_laws.proofs.Windows.{get_either}
 

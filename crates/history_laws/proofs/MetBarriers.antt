@@ -4,7 +4,6 @@ use Rattle.std.specs.Prelude.{slice_get, if◌then◌else◌, ◌==◌}
 use Rattle.std.specs.List.{flat_map}
 use Rattle.std.proofs.lemmas.Bool.{cases_lt}
 use Rattle.std.proofs.lemmas.List.{append-nil, take-append-le, length-append}
-use Rattle.std.proofs.lemmas.List.Sums.{sum_by-append}
 use Rattle.std.proofs.lemmas.Grind.{flat_map-append}
 use Rattle.sw_base.specs.declared.path.Step.{Step}
 use Rattle.log_format.specs.declared.record.Record.{Record}
@@ -13,15 +12,13 @@ use Rattle.log_format.specs.declared.record.Kind.TheVariants.{Barrier}
 use Rattle.race_model.specs.Listing.{lane_of}
 use Rattle.race_model.specs.Trace.{Node, barrier_count, is_barrier_kind, regions_before}
 use Rattle.race_model.specs.Order.{IsLane}
+use Rattle.race_model.proofs.Counted.{barriers_both}
 use Rattle.history_model.specs.Work.{Work, Rest, Put, Fork, Phases, NoPhase, Phase, TeamWork, NoWork, Beside, RegionWork, fork_record, work_records, work_regions, work_at, lane_works, works_at_region, works_at_step, works_under, works_of, task_logs}
 use Rattle.history_model.specs.Did.{lane_count_of}
 use Rattle.history_model.specs.Sound.{WordLayout, IsSound, ArePhasesSound, IsTeamSound, PassesBarrier}
 use Rattle.history_model.proofs.Parts.{count_cons}
 use Rattle.history_laws.proofs.TeamBarriers.{take_past}
 use Rattle.history_laws.proofs.TaskTree.{sound_regions, sound_works_under}
-
-pub barriers_both : (xs ys : List Record) → barrier_count (xs ++ ys) ≡ barrier_count xs + barrier_count ys
-barriers_both xs ys = sum_by-append (λ (r : Record). cond (is_barrier_kind r.kind) 1 0) xs ys
 
 is_barrier_or_not : (k : Kind) → (k ≡ Barrier) ⊎ (is_barrier_kind k ≡ false)
 is_barrier_or_not Barrier = inl refl

@@ -3,7 +3,7 @@ ghost use Rattle.std.specs.Prelude.{◌≡◌, ◌≤◌, None, length, IfOk};
 
 use crate::file::HostFile;
 use crate::log::HostLog;
-use crate::system::{counted, is_missing, make_empty, put_whole, size_of, trouble};
+use crate::system::{counted, is_missing, make_empty, open_regular, put_whole, size_of, trouble};
 use std::alloc::Global;
 use std::fs;
 use std::fs::File;
@@ -84,7 +84,7 @@ impl<R: Files<File = File> + Clone + Drop + Send + 'static> Folder for HostFolde
     }
 
     fn open_file(&mut self, _alloc: Global, name: &str) -> Result<Option<HostFile>, Trouble> {
-        match File::open(&self.rt, name) {
+        match open_regular(&self.rt, name) {
             Ok(file) => Ok(Some(HostFile::new(file))),
             Err(error) if is_missing(&error) => Ok(None),
             Err(error) => Err(trouble(error, &mut self.read_faults)),

@@ -101,6 +101,12 @@ pub(crate) fn size_of<R: Files>(rt: &R, name: &str) -> io::Result<u64> {
     }
 }
 
+/// Opens a file to be read. One that is no regular file is an error and isn't opened: it may have no end, or wait for who writes into it.
+pub(crate) fn open_regular<R: Files>(rt: &R, name: &str) -> io::Result<R::File> {
+    size_of(rt, name)?;
+    File::open(rt, name)
+}
+
 /// Makes the file, or empties it.
 pub(crate) fn make_empty<R: Files>(rt: &R, name: &str) -> io::Result<()> {
     File::create(rt, name)?;

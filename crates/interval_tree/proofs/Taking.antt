@@ -1,9 +1,9 @@
 -- A visitor that takes one list and then another.
 use Rattle.std.proofs.Common.{◌≡◌, List, [], ◌∷◌, ◌++◌, refl, sym, ◌∙◌, ap, subst, append_assoc}
-use Rattle.interval_tree.specs.Visits.{Takes, TakesUpTo}
+use Rattle.interval_tree.specs.Visits.{TakesEach, TakesUpTo}
 
-pub Takes-append : {S X : Type 0} (took : S → X → S → Type 0) (a b c : S) (xs ys : List X) → Takes took a xs b → Takes took b ys c → Takes took a (xs ++ ys) c
-Takes-append {S = S} took a b c [] ys first second = subst (λ (s : S). Takes took s ys c) (sym first) second
+pub Takes-append : {S X : Type 0} (took : S → X → S → Type 0) (a b c : S) (xs ys : List X) → TakesEach took a xs b → TakesEach took b ys c → TakesEach took a (xs ++ ys) c
+Takes-append {S = S} took a b c [] ys first second = subst (λ (s : S). TakesEach took s ys c) (sym first) second
 Takes-append took a b c (x ∷ xs) ys first second = (first.0, first.1, Takes-append took first.0 b c xs ys first.2 second)
 
 -- what comes after a refusal changes nothing
@@ -18,7 +18,7 @@ TakesUpTo-append took refused a c xs ys up = record {
   refuses = up.refuses;
 }
 
-pub TakesUpTo-behind : {S X : Type 0} (took refused : S → X → S → Type 0) (a b c : S) (xs ys : List X) → Takes took a xs b → TakesUpTo took refused b ys c → TakesUpTo took refused a (xs ++ ys) c
+pub TakesUpTo-behind : {S X : Type 0} (took refused : S → X → S → Type 0) (a b c : S) (xs ys : List X) → TakesEach took a xs b → TakesUpTo took refused b ys c → TakesUpTo took refused a (xs ++ ys) c
 TakesUpTo-behind took refused a b c xs ys first up = record {
   taken = xs ++ up.taken;
   next = up.next;
@@ -33,18 +33,18 @@ pub TakesUpTo-first : {S X : Type 0} (took refused : S → X → S → Type 0) (
 TakesUpTo-first took refused a c x is = record { taken = []; next = x; later = []; all = refl; between = a; takes = refl; refuses = is }
 
 -- a list in three parts
-pub taken_in_turn : {S X : Type 0} (took : S → X → S → Type 0) (a b c d : S) (xs ys zs all : List X) → all ≡ (xs ++ ys) ++ zs → Takes took a xs b → Takes took b ys c → Takes took c zs d → Takes took a all d
+pub taken_in_turn : {S X : Type 0} (took : S → X → S → Type 0) (a b c d : S) (xs ys zs all : List X) → all ≡ (xs ++ ys) ++ zs → TakesEach took a xs b → TakesEach took b ys c → TakesEach took c zs d → TakesEach took a all d
 taken_in_turn {X = X} took a b c d xs ys zs all is first second third =
-    subst (λ (rs : List X). Takes took a rs d) (sym is) (Takes-append took a c d (xs ++ ys) zs (Takes-append took a b c xs ys first second) third)
+    subst (λ (rs : List X). TakesEach took a rs d) (sym is) (Takes-append took a c d (xs ++ ys) zs (Takes-append took a b c xs ys first second) third)
 
 pub refused_first : {S X : Type 0} (took refused : S → X → S → Type 0) (a d : S) (xs ys zs all : List X) → all ≡ (xs ++ ys) ++ zs → TakesUpTo took refused a xs d → TakesUpTo took refused a all d
 refused_first {X = X} took refused a d xs ys zs all is up =
     subst (λ (rs : List X). TakesUpTo took refused a rs d) (sym is) (TakesUpTo-append took refused a d (xs ++ ys) zs (TakesUpTo-append took refused a d xs ys up))
 
-pub refused_second : {S X : Type 0} (took refused : S → X → S → Type 0) (a b d : S) (xs ys zs all : List X) → all ≡ (xs ++ ys) ++ zs → Takes took a xs b → TakesUpTo took refused b ys d → TakesUpTo took refused a all d
+pub refused_second : {S X : Type 0} (took refused : S → X → S → Type 0) (a b d : S) (xs ys zs all : List X) → all ≡ (xs ++ ys) ++ zs → TakesEach took a xs b → TakesUpTo took refused b ys d → TakesUpTo took refused a all d
 refused_second {X = X} took refused a b d xs ys zs all is first up =
     subst (λ (rs : List X). TakesUpTo took refused a rs d) (sym is) (TakesUpTo-append took refused a d (xs ++ ys) zs (TakesUpTo-behind took refused a b d xs ys first up))
 
-pub refused_third : {S X : Type 0} (took refused : S → X → S → Type 0) (a b c d : S) (xs ys zs all : List X) → all ≡ (xs ++ ys) ++ zs → Takes took a xs b → Takes took b ys c → TakesUpTo took refused c zs d → TakesUpTo took refused a all d
+pub refused_third : {S X : Type 0} (took refused : S → X → S → Type 0) (a b c d : S) (xs ys zs all : List X) → all ≡ (xs ++ ys) ++ zs → TakesEach took a xs b → TakesEach took b ys c → TakesUpTo took refused c zs d → TakesUpTo took refused a all d
 refused_third {X = X} took refused a b c d xs ys zs all is first second up =
     subst (λ (rs : List X). TakesUpTo took refused a rs d) (sym is) (TakesUpTo-behind took refused a c d (xs ++ ys) zs (Takes-append took a b c xs ys first second) up)

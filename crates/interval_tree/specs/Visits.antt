@@ -4,9 +4,9 @@ use Rattle.stride_summary.specs.declared.run.Run.{Run}
 use Rattle.interval_tree.specs.Order.{met}
 
 -- from one state to another by taking each of a list in turn
-abbrev pub Takes : {S X : Type 0} → (S → X → S → Type 0) → S → List X → S → Type 0
-Takes took before [] after = before ≡ after
-Takes {S} took before (x ∷ xs) after = (between : S) × took before x between × Takes took between xs after
+abbrev pub TakesEach : {S X : Type 0} → (S → X → S → Type 0) → S → List X → S → Type 0
+TakesEach took before [] after = before ≡ after
+TakesEach {S} took before (x ∷ xs) after = (between : S) × took before x between × TakesEach took between xs after
 
 -- the first of a list were taken, and the next was refused
 pub record TakesUpTo {S X : Type 0} (took refused : S → X → S → Type 0) (before : S) (xs : List X) (after : S) : Type 0 where
@@ -15,7 +15,7 @@ pub record TakesUpTo {S X : Type 0} (took refused : S → X → S → Type 0) (b
   pub later : List X
   pub all : xs ≡ taken ++ next ∷ later
   pub between : S
-  pub takes : Takes took before taken between
+  pub takes : TakesEach took before taken between
   pub refuses : refused between next after
 
 -- for each run that is met, and once more unless all runs begin by hi, a step at most for each binary digit of the runs' number

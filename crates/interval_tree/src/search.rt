@@ -1,6 +1,6 @@
 ghost use Rattle.std.specs.Prelude.{◌^◌, ◌<◌, ◌≤◌, length, [], ◌∷◌, map, OnOk, OnErr};
 ghost use Rattle.interval_tree.specs.Order.{IsTree, met};
-ghost use Rattle.interval_tree.specs.Visits.{StepsWithin, Takes, TakesUpTo};
+ghost use Rattle.interval_tree.specs.Visits.{StepsWithin, TakesEach, TakesUpTo};
 
 use crate::steps::Steps;
 use crate::visit::Visit;
@@ -21,7 +21,7 @@ pub fn search<V: Visit, L: Ledger>(
 ) -> Result<(), Memory>
     requires tree { IsTree (map (λ r. r.now) runs.now) reaches.now }
     requires levels { length runs.now < 2 ^ levels }
-    ensures taken { OnOk result (Takes V.took visit.old (met lo hi (map (λ r. r.now) runs.now)) visit.new) }
+    ensures taken { OnOk result (TakesEach V.took visit.old (met lo hi (map (λ r. r.now) runs.now)) visit.new) }
     ensures refused { OnErr result (TakesUpTo V.took V.refused visit.old (met lo hi (map (λ r. r.now) runs.now)) visit.new) }
     ensures steps { StepsWithin steps.old steps.new lo hi (map (λ r. r.now) runs.now) }
 {
@@ -47,7 +47,7 @@ pub fn search<V: Visit, L: Ledger>(
 
 fn offer<V: Visit>(run: &Run, lo: u64, hi: u64, visit: &mut V) -> Result<(), Memory>
     requires { run.now.base ≤ hi }
-    ensures taken { OnOk result (Takes V.took visit.old (met lo hi (run.now ∷ [])) visit.new) }
+    ensures taken { OnOk result (TakesEach V.took visit.old (met lo hi (run.now ∷ [])) visit.new) }
     ensures refused { OnErr result (TakesUpTo V.took V.refused visit.old (met lo hi (run.now ∷ [])) visit.new) }
 {
     if run.high() < lo {

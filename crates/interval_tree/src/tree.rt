@@ -2,7 +2,7 @@ ghost use Rattle.std.specs.Prelude.{◌≡◌, ℕ, ◌+◌, ◌*◌, ◌^◌, �
 ghost use Rattle.std.specs.List.{flat_map};
 ghost use Rattle.interval_tree.specs.Order.{IsInOrder, met};
 ghost use Rattle.interval_tree.specs.Reaches.{AddsReaches, furthest};
-ghost use Rattle.interval_tree.specs.Visits.{Takes, TakesUpTo};
+ghost use Rattle.interval_tree.specs.Visits.{TakesEach, TakesUpTo};
 
 use crate::search::search;
 use crate::steps::Steps;
@@ -105,7 +105,7 @@ impl<'r> Tree<'r> {
         visit: &mut V,
         steps: &mut Steps<L>,
     ) -> Result<(), Memory>
-        ensures taken { OnOk result (Takes V.took visit.old (met lo hi self.now) visit.new) }
+        ensures taken { OnOk result (TakesEach V.took visit.old (met lo hi self.now) visit.new) }
         ensures refused { OnErr result (TakesUpTo V.took V.refused visit.old (met lo hi self.now) visit.new) }
         ensures cost { (digits : ℕ) → length self.now < 2 ^ digits → steps.new ≤ steps.old + (length (met lo hi self.now) + 1) * digits }
     {

@@ -2,8 +2,8 @@
 use Rattle.std.proofs.Common.{◌≡◌, ◌⊎◌, inl, inr, refl, sym, ap, ◌∙◌, ℕ, List, [], ◌∷◌, Result, Ok, Err}
 use Rattle.kernel_syntax.specs.Program.{Program}
 use Rattle.kernel_text.specs.declared.token.Token.{Token}
-use Rattle.kernel_text.specs.declared.judging.Verdict.{Verdict}
-use Rattle.kernel_text.specs.declared.judging.Verdict.TheVariants as verdict
+use Rattle.kernel_text.specs.declared.judging.Judgement.{Judgement}
+use Rattle.kernel_text.specs.declared.judging.Judgement.TheVariants as verdict
 use Rattle.kernel_text.specs.Tokens.{Refusal, tokens_of}
 use Rattle.kernel_text.specs.Grammar.{KernelTree, kernel_tokens, IsKernel, IsShallow}
 use Rattle.kernel_text.specs.Faults.{IsVerdict}
@@ -23,7 +23,7 @@ by-rules text k e d s (r ∷ later) broken = inr (r, AtRule k later e d s broken
 abbrev told : List Token → Result (List Token) Refusal
 told ts = Ok ts
 
-by-grammar : (text : List ℕ) (ts : List Token) → tokens_of text ≡ Ok ts → (v : Verdict) → IsVerdict ts v → HasAnswer text
+by-grammar : (text : List ℕ) (ts : List Token) → tokens_of text ≡ Ok ts → (v : Judgement) → IsVerdict ts v → HasAnswer text
 by-grammar text ts e verdict.Kernel v = by-rules text v.0 (e ∙ ap told (sym v.3)) v.1 v.2 (kernel_faults v.0) refl
 by-grammar text ts e (verdict.Syntax line) v = inr (_, refused_syntax text ts line e v)
 by-grammar text ts e (verdict.Deep line) v = inr (_, refused_deep text ts line e v)

@@ -10,8 +10,8 @@ use Rattle.kernel_text.specs.declared.token.Lexeme.TheVariants.{Named, Number, R
 use Rattle.kernel_text.specs.declared.token.Token.{Token}
 use Rattle.kernel_text.specs.declared.judging.Want.{Want}
 use Rattle.kernel_text.specs.declared.judging.Want.TheVariants as want
-use Rattle.kernel_text.specs.declared.judging.Verdict.{Verdict}
-use Rattle.kernel_text.specs.declared.judging.Verdict.TheVariants as verdict
+use Rattle.kernel_text.specs.declared.judging.Judgement.{Judgement}
+use Rattle.kernel_text.specs.declared.judging.Judgement.TheVariants as verdict
 use Rattle.kernel_text.specs.Grammar.{op_of, sign_of, is_comparison}
 use Rattle.kernel_text.specs.Faults.{IsVerdict}
 use Rattle.kernel_text.specs.Wanting.{Plain, At, Fill, fill_tokens, AreDelimited, token, Refuses, LeadsTo, Skips}
@@ -22,7 +22,7 @@ use Rattle.kernel_text.proofs.UnfoldingOperators.{plain-takes, comparison-takes,
 use Rattle.kernel_text.proofs.UnfoldingStmts.{array-takes, mutex-takes, main-takes, kernel-refuses, let-takes, update-takes, if-takes, loop-takes, parallel-takes, for-takes, barrier-takes, critical-takes, stmts-skip}
 use Rattle.kernel_text.proofs.UnfoldingStmts as stmts
 use Rattle.kernel_text.proofs.Moving.{Reaches, reaches-all, reaches-more, reaches-refuses, reaches-none, reaches-takes}
-use Rattle.kernel_text.proofs.Judgement.{start, Judged, judged-none, judged-more, is-kernel, is-syntax, is-deep, is-early}
+use Rattle.kernel_text.proofs.JudgingTokens.{start, Judged, judged-none, judged-more, is-kernel, is-syntax, is-deep, is-early}
 
 -- what comes of a lexeme where a want is next
 data Answer (w : Want) (x : Lexeme) (s : List Want) : Type 0 where
@@ -204,7 +204,7 @@ stepped x before (w ∷ s) r = elim (answer w x s r.apart) [
 ]
 
 abbrev HasVerdict : List Token → Type 0
-HasVerdict ts = (v : Verdict) × IsVerdict ts v
+HasVerdict ts = (v : Judgement) × IsVerdict ts v
 
 at-level : (ts rest : List Token) (t : Token) (s : List Want) → Judged ts (t ∷ rest) s → (level : ℕ) (deep : Bool) → nat_lt 32 level ≡ deep → (after : List Want) → LeadsTo s t.lexeme level after
     → ((after : List Want) → Judged ts rest after → HasVerdict ts) → HasVerdict ts

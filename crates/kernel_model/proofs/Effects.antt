@@ -10,7 +10,9 @@ use Rattle.kernel_syntax.specs.Tree as tree
 use Rattle.kernel_syntax.specs.Tree.{Term}
 use Rattle.log_format.specs.declared.record.Record.{Record}
 use Rattle.log_format.specs.declared.record.Kind.TheVariants as kind
-use Rattle.kernel_model.specs.State.{State, Fork, Stop, LogFull, Outcome, Gives, and_then, put, event, reads_of, chunks_of, value_read, number_drawn}
+use Rattle.kernel_model.specs.State.{State, Fork, Outcome, Gives, and_then, put, event, reads_of, chunks_of, value_read, number_drawn}
+use Rattle.kernel_model.specs.declared.stop.StopWhy.{StopWhy}
+use Rattle.kernel_model.specs.declared.stop.StopWhy.TheVariants.{LogFull}
 use Rattle.kernel_model.specs.Value.{Site, Element, access, read}
 use Rattle.kernel_model.specs.Trace.{draw}
 use Rattle.kernel_model.specs.Effect.{Effect, Finish, Returned, Halted, finished, state_with, Makes, then_effect, adds, MakesValue}
@@ -44,7 +46,7 @@ makes-same part other slots room effect finish same m = record {
 
 module _ {A B : Type 0} (part : State → Outcome A) (next : A → State → Outcome B) (slots : List ℤ) (room : ℕ) (one : Effect) where
   -- a part that stops, whatever follows it
-  pub makes-halt : (why : Stop) (line : ℕ) → Makes part slots room one (Halted why line) →
+  pub makes-halt : (why : StopWhy) (line : ℕ) → Makes part slots room one (Halted why line) →
       Makes (λ s. and_then (part s) next) slots room one (Halted why line)
   makes-halt why line m = record {
     within = m.within;

@@ -9,7 +9,8 @@ use Rattle.kernel_syntax.specs.Tree as tree
 use Rattle.kernel_syntax.specs.Tree.{Term, Code}
 use Rattle.log_format.specs.declared.record.Record.{Record}
 use Rattle.log_format.specs.declared.record.Kind.TheVariants as kind
-use Rattle.kernel_model.specs.State.{State, Gives, Stops, Wants, LogFull, and_then, after, put, event, assign}
+use Rattle.kernel_model.specs.State.{State, Gives, Stops, Wants, and_then, after, put, event, assign}
+use Rattle.kernel_model.specs.declared.stop.StopWhy.TheVariants.{LogFull}
 use Rattle.kernel_model.specs.Value.{Site, Element, element_at, access, read, loaded, operated, value}
 use Rattle.kernel_model.specs.Iterations.{total_of}
 use Rattle.kernel_model.specs.Trace.{stored, updated, amount_of, branch, turns, draw, shared, loop_end, forked, run}

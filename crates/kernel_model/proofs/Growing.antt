@@ -1,22 +1,19 @@
 -- A run only adds records, each takes room, and each Region record has its fork.
 use Rattle.std.proofs.Common.{◌≡◌, refl, ap, sym, ◌∙◌, ℕ, suc, ◌+◌, Bool, true, false, cond, List, [], ◌∷◌, ◌++◌, ℤ, arith, append_assoc, true≢false}
 use Rattle.std.proofs.lemmas.List.{append-nil, length-append}
-use Rattle.std.proofs.lemmas.List.Sums.{sum_by-append}
 use Rattle.kernel_syntax.specs.Tree.{Term, Code, Done}
 use Rattle.kernel_syntax.specs.Program.{Program}
 use Rattle.log_format.specs.declared.record.Record.{Record}
 use Rattle.log_format.specs.declared.record.Kind.{Kind}
 use Rattle.log_format.specs.declared.record.Kind.TheVariants as kind
-use Rattle.race_model.specs.Trace.{is_region_kind, region_count}
+use Rattle.race_model.specs.Trace.{is_region_kind}
+use Rattle.race_model.proofs.Counted.{regions_both}
 use Rattle.kernel_model.specs.State.{State, state_of, event, after}
 use Rattle.kernel_model.specs.Value.{Site, value}
 use Rattle.kernel_model.specs.Trace.{run, task, Start, state_at, branch}
 use Rattle.kernel_model.specs.Growth.{Grows}
 use Rattle.kernel_model.proofs.SingleSteps.{IsMark, KeepsPlainSteps, KeepsUpdates, KeepsBarriers, KeepsEnds, KeepsSteps}
 use Rattle.kernel_model.proofs.Steps.{kept-value, kept-run, kept-task, kept-after, kept-branch}
-
-region_count-append : (xs ys : List Record) → region_count (xs ++ ys) ≡ region_count xs + region_count ys
-region_count-append xs ys = sum_by-append (λ (r : Record). cond (is_region_kind r.kind) 1 0) xs ys
 
 -- a record that is no Region
 plain_count : (b : Bool) → b ≡ false → 0 ≡ 0 + cond b 1 0
@@ -42,7 +39,7 @@ grows-chain a b c one more = record {
   regions = one.regions ++ more.regions;
   forks_are = more.forks_are ∙ ap (λ l. l ++ more.regions) one.forks_are ∙ append_assoc a.forks one.regions more.regions;
   fork_count =
-      omega (arith, length-append one.regions more.regions, one.fork_count, more.fork_count, region_count-append one.added more.added);
+      omega (arith, length-append one.regions more.regions, one.fork_count, more.fork_count, regions_both one.added more.added);
 }
 
 -- one record more, which is no Region

@@ -2,13 +2,16 @@
 use Rattle.std.proofs.Common.{◌≡◌, refl, append_assoc, ap, sym, ◌∙◌, subst, ℕ, ◌-◌, ◌<◌, List, [], ◌∷◌, ◌++◌, length, ℤ}
 use Rattle.std.specs.Prelude.{slice_set}
 use Rattle.std.proofs.lemmas.List.{append-nil}
+use Rattle.log_format.specs.Limit.{record_limit}
 use Rattle.kernel_syntax.specs.Program.{Program}
 use Rattle.kernel_syntax.specs.Tree as tree
 use Rattle.kernel_syntax.specs.Tree.{Term, Code, TeamTree}
 use Rattle.log_format.specs.declared.record.Kind.TheVariants as kind
-use Rattle.kernel_model.specs.State.{State, Stop, LogFull, Outcome, Gives, Stops, Wants, and_then, after, put, event, assign, reads_of, chunks_of, state_of}
+use Rattle.kernel_model.specs.State.{State, Outcome, Gives, Stops, Wants, and_then, after, put, event, assign, reads_of, chunks_of, state_of}
+use Rattle.kernel_model.specs.declared.stop.StopWhy.{StopWhy}
+use Rattle.kernel_model.specs.declared.stop.StopWhy.TheVariants.{LogFull}
 use Rattle.kernel_model.specs.Value.{Site}
-use Rattle.kernel_model.specs.Trace.{run, turns, forked, task, Start, site_of, log_limit, Ending, Ended, Stopped, trace_of}
+use Rattle.kernel_model.specs.Trace.{run, turns, forked, task, Start, site_of, Ending, Ended, Stopped, trace_of}
 use Rattle.kernel_model.specs.Effect.{Effect, Finish, Returned, Halted, finished, state_with, Makes, then_effect, adds, MakesRun}
 use Rattle.kernel_model.specs.Folder.{own_trace}
 use Rattle.kernel_model.proofs.Equations.{run-Done, run-Parallel, run-Critical}
@@ -21,7 +24,7 @@ after-is (Wants s) next = refl
 
 module _ (part next : State → Outcome (Unit {0})) (slots : List ℤ) (room : ℕ) (one : Effect) where
   -- a part that stops, and a part that another follows
-  pub makes-after_halt : (why : Stop) (line : ℕ) → Makes part slots room one (Halted why line) →
+  pub makes-after_halt : (why : StopWhy) (line : ℕ) → Makes part slots room one (Halted why line) →
       Makes (λ s. after (part s) next) slots room one (Halted why line)
   makes-after_halt why line m =
       makes-same _ _ slots room one (Halted why line) (λ s. after-is (part s) next) (makes-halt part (λ _. next) slots room one why line m)
@@ -127,13 +130,13 @@ module _ (program : Program) (start : Start) where
   abbrev pub parts : State → Outcome (Unit {0})
   parts s = after (run (site_of program start) start.team.body s) (put (event kind.End start.team.end 0 0))
 
-  pub own_trace-is : (e : Effect) (finish : Finish (Unit {0})) → Makes parts start.slots log_limit e finish →
+  pub own_trace-is : (e : Effect) (finish : Finish (Unit {0})) → Makes parts start.slots record_limit e finish →
       own_trace program start e.added ≡ record { records = e.added; forks = e.forks; end = end_of finish }
   unfolding task
   own_trace-is e finish m =
-      ap (λ l. trace_of (parts (state_with start.slots [] [] log_limit l (chunks_of e.added))) (state_of (parts (state_with start.slots [] [] log_limit l (chunks_of e.added)))))
+      ap (λ l. trace_of (parts (state_with start.slots [] [] record_limit l (chunks_of e.added))) (state_of (parts (state_with start.slots [] [] record_limit l (chunks_of e.added)))))
       (sym (append-nil (reads_of e.added)))
-      ∙ ap (λ l. trace_of (parts (state_with start.slots [] [] log_limit (reads_of e.added ++ []) l)) (state_of (parts (state_with start.slots [] [] log_limit (reads_of e.added ++ []) l))))
+      ∙ ap (λ l. trace_of (parts (state_with start.slots [] [] record_limit (reads_of e.added ++ []) l)) (state_of (parts (state_with start.slots [] [] record_limit (reads_of e.added ++ []) l))))
       (sym (append-nil (chunks_of e.added)))
       ∙ ap (λ o. trace_of o (state_of o)) (m.makes [] [] [] [])
-      ∙ trace_of-finished finish (state_with e.slots ([] ++ e.added) ([] ++ e.forks) (log_limit - length e.added) [] [])
+      ∙ trace_of-finished finish (state_with e.slots ([] ++ e.added) ([] ++ e.forks) (record_limit - length e.added) [] [])

@@ -2,7 +2,8 @@
 use Rattle.std.specs.Prelude.{◌≡◌, ℕ, ◌-◌, ◌≤◌, List, [], ◌++◌, length, ℤ}
 use Rattle.log_format.specs.declared.record.Record.{Record}
 use Rattle.kernel_syntax.specs.Tree.{Term, Code}
-use Rattle.kernel_model.specs.State.{State, Fork, Stop, Outcome, Gives, Stops, reads_of, chunks_of}
+use Rattle.kernel_model.specs.State.{State, Fork, Outcome, Gives, Stops, reads_of, chunks_of}
+use Rattle.kernel_model.specs.declared.stop.StopWhy.{StopWhy}
 use Rattle.kernel_model.specs.Value.{Site, value}
 use Rattle.kernel_model.specs.Trace.{run}
 
@@ -15,7 +16,7 @@ pub record Effect : Type 0 where
 -- how a part ends: with a value, or with a stop at a line
 pub data Finish (A : Type 0) : Type 0 where
   Returned : (result : A) → Finish A
-  Halted : (why : Stop) → (line : ℕ) → Finish A
+  Halted : (why : StopWhy) → (line : ℕ) → Finish A
 
 abbrev pub finished : {A : Type 0} → Finish A → State → Outcome A
 finished (Returned a) s = Gives a s

@@ -9,5 +9,6 @@ pub mod Lawful
 pub mod Parts
 pub mod Phases
 pub mod State
+pub mod Stopping
 pub mod Trace
 pub mod Value

@@ -7,6 +7,8 @@ use Rattle.log_format.specs.declared.record.Record.{Record}
 use Rattle.log_format.specs.declared.record.Kind.{Kind}
 use Rattle.log_format.specs.declared.record.Kind.TheVariants.{Read, Chunk}
 use Rattle.std.specs.Prelude.{Option, Some, None}
+use Rattle.kernel_model.specs.declared.stop.StopWhy.{StopWhy}
+use Rattle.kernel_model.specs.declared.stop.StopWhy.TheVariants.{LogFull}
 
 -- the team of a region that the task forked, and the task's locals at that point
 pub record Fork : Type 0 where
@@ -23,16 +25,11 @@ pub record State : Type 0 where
   pub reads : List ℤ
   pub chunks : List ℕ
 
--- why a task stops: a divisor is 0, an index lies outside its array, or the log is full
-pub data Stop : Type 0 where
-  DivZero : Stop
-  Index : Stop
-  LogFull : Stop
-
--- how a part of a task ends: it gives a value, or stops at a line, or wants a value or chunk number that isn't there
+-- how a part of a task ends: it gives a value, or stops at a line, or wants a value or chunk number that isn't there; no part stops for the
+-- number of tasks below its own
 pub data Outcome (A : Type 0) : Type 0 where
   Gives : (result : A) → (state : State) → Outcome A
-  Stops : (why : Stop) → (line : ℕ) → (state : State) → Outcome A
+  Stops : (why : StopWhy) → (line : ℕ) → (state : State) → Outcome A
   Wants : (state : State) → Outcome A
 
 -- goes on with the value where there is one

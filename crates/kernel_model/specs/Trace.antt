@@ -10,7 +10,9 @@ use Rattle.log_format.specs.Limit.{record_limit}
 use Rattle.log_format.specs.declared.record.Record.{Record}
 use Rattle.log_format.specs.declared.record.Kind.{Kind}
 use Rattle.log_format.specs.declared.record.Kind.TheVariants as kind
-use Rattle.kernel_model.specs.State.{State, Fork, Stop, Outcome, Gives, Stops, Wants, Index, LogFull, and_then, after, put, event, assign, state_of}
+use Rattle.kernel_model.specs.State.{State, Fork, Outcome, Gives, Stops, Wants, and_then, after, put, event, assign, state_of}
+use Rattle.kernel_model.specs.declared.stop.StopWhy.{StopWhy}
+use Rattle.kernel_model.specs.declared.stop.StopWhy.TheVariants.{Index, LogFull}
 use Rattle.kernel_model.specs.Value.{Site, Element, element_at, access, value}
 use Rattle.kernel_model.specs.Iterations.{total_of, even_iterations, static_iterations, chunk_count, chunk_iterations}
 
@@ -116,16 +118,12 @@ pub record Start : Type 0 where
   pub lane : ℕ
   pub slots : List ℤ
 
--- a log has at most so many records
-abbrev pub log_limit : ℕ
-log_limit = record_limit
-
 abbrev pub site_of : Program → Start → Site
 site_of program start = record { arrays = program.arrays; lane = start.lane; span = start.team.span }
 
 abbrev pub state_at : Start → List ℤ → List ℕ → State
 state_at start reads chunks =
-    record { slots = start.slots; records = []; forks = []; room = log_limit; reads = reads; chunks = chunks }
+    record { slots = start.slots; records = []; forks = []; room = record_limit; reads = reads; chunks = chunks }
 
 -- a whole task from its start, its End included, under these values read and these chunk numbers
 unfoldable pub task : Program → Start → List ℤ → List ℕ → Outcome (Unit {0})
@@ -135,7 +133,7 @@ task program start reads chunks =
 -- how a trace ends
 pub data Ending : Type 0 where
   Ended : Ending
-  Stopped : (why : Stop) → (line : ℕ) → Ending
+  Stopped : (why : StopWhy) → (line : ℕ) → Ending
   Wanting : Ending
 
 pub record TaskTrace : Type 0 where

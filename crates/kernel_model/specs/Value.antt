@@ -7,7 +7,8 @@ use Rattle.kernel_syntax.specs.Arithmetic.{applied, negated}
 use Rattle.log_format.specs.declared.record.Record.{Record}
 use Rattle.log_format.specs.declared.record.Kind.{Kind}
 use Rattle.log_format.specs.declared.record.Kind.TheVariants.{Read}
-use Rattle.kernel_model.specs.State.{State, Outcome, Gives, Stops, Wants, DivZero, Index, LogFull, and_then, to_bits}
+use Rattle.kernel_model.specs.State.{State, Outcome, Gives, Stops, Wants, and_then, to_bits}
+use Rattle.kernel_model.specs.declared.stop.StopWhy.TheVariants.{DivZero, Index, LogFull}
 
 -- where a task runs: the kernel's arrays, its lane and its team's number of lanes
 pub record Site : Type 0 where

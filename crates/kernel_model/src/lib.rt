@@ -13,7 +13,9 @@
 mod change;
 mod growth;
 mod phase;
+mod stop;
 
 pub use change::{Change, negate};
 pub use growth::tasks_only_add_records;
 pub use phase::{Item, Phase};
+pub use stop::StopWhy;

@@ -6,17 +6,17 @@ use Rattle.kernel_parser.specs.declared.fault.ParseFault.{ParseFault}
 use Rattle.kernel_parser.specs.declared.fault.ParseFault.TheVariants as fault
 use Rattle.kernel_parser.specs.declared.tree.Statement.{Statement}
 use Rattle.kernel_parser.specs.Trees.{stmts_before, stmts_of}
-use Rattle.kernel_parser.specs.Parsing.{IsBlock, IsFirst, Reads, inside, lead_of_stmts}
+use Rattle.kernel_parser.specs.Parsing.{IsBlockRead, IsFirst, ReadsTo, inside, lead_of_stmts}
 use Rattle.kernel_parser.proofs.Equations.{before_push}
 use Rattle.kernel_parser.proofs.Signs.{heads-is}
 use Rattle.kernel_parser.proofs.Heading.{View, IsEnd, seen}
 
 -- a fault is the same for all that may be due
-pub only-fault : {X Y : Type 0} (IsDue : X → Type 0) (IsOther : Y → Type 0) (f : ParseFault) → Reads (Err f) IsDue → Reads (Err f) IsOther
+pub only-fault : {X Y : Type 0} (IsDue : X → Type 0) (IsOther : Y → Type 0) (f : ParseFault) → ReadsTo (Err f) IsDue → ReadsTo (Err f) IsOther
 only-fault IsDue IsOther fault.NoKernel reads = reads
 only-fault IsDue IsOther fault.Memory reads = tt
 
-pub block-at : (us ts : List Token) (opened : ℕ) (body : Stmts) (closed : ℕ) (after : List Token) → us ≡ ts → IsBlock ts opened body closed after → IsBlock us opened body closed after
+pub block-at : (us ts : List Token) (opened : ℕ) (body : Stmts) (closed : ℕ) (after : List Token) → us ≡ ts → IsBlockRead ts opened body closed after → IsBlockRead us opened body closed after
 block-at us ts opened body closed after e is = rw e is
 
 -- these statements of a body are left, behind the ones that were read
@@ -30,11 +30,11 @@ pub record IsLeft (opened line : ℕ) (body : Stmts) (closed : ℕ) (after : Lis
   pub shallow : AreShallow levels rest
 
 abbrev pub Leaves : List Token → ℕ → List Statement → List Token → Type 0
-Leaves ts line made left = (opened : ℕ) (body : Stmts) (closed : ℕ) (after : List Token) → IsBlock ts opened body closed after → IsLeft opened line body closed after made left
+Leaves ts line made left = (opened : ℕ) (body : Stmts) (closed : ℕ) (after : List Token) → IsBlockRead ts opened body closed after → IsLeft opened line body closed after made left
 
 -- what the first of the statements is read as
 abbrev FirstReads : Token → List Token → Result (Statement × Bor (List Token)) ParseFault → Type 0
-FirstReads t ts r = (b : Stmts) (end : ℕ) (tail : List Token) (n : ℕ) → t ∷ ts ≡ inside b end tail → StmtsDerive b → AreShallow n b → Reads r (λ x. IsFirst n b end tail x.0 x.1.now)
+FirstReads t ts r = (b : Stmts) (end : ℕ) (tail : List Token) (n : ℕ) → t ∷ ts ≡ inside b end tail → StmtsDerive b → AreShallow n b → ReadsTo r (λ x. IsFirst n b end tail x.0 x.1.now)
 
 -- the next of them is read, too
 pub left-steps : (all : List Token) (line : ℕ) (made more : List Statement) (ts us : List Token) (t : Token) (x : Statement × Bor (List Token)) → Leaves all line made ts → ts ≡ t ∷ us
@@ -55,7 +55,7 @@ left-steps all line made more ts us t x leaves split reads more_is opened body c
 
 -- no first is refused
 pub left-fails : {X : Type 0} (IsDue : X → Type 0) (all : List Token) (line : ℕ) (made : List Statement) (ts us : List Token) (t : Token) (f : ParseFault) → Leaves all line made ts → ts ≡ t ∷ us
-    → FirstReads t us (Err f) → (opened : ℕ) (body : Stmts) (closed : ℕ) (after : List Token) → IsBlock all opened body closed after → Reads (Err f) IsDue
+    → FirstReads t us (Err f) → (opened : ℕ) (body : Stmts) (closed : ℕ) (after : List Token) → IsBlockRead all opened body closed after → ReadsTo (Err f) IsDue
 left-fails IsDue all line made ts us t fault.NoKernel leaves split reads opened body closed after is =
     let l = leaves opened body closed after is in
     let e : t ∷ us ≡ inside l.rest closed after = sym split ∙ l.parts in
@@ -64,7 +64,7 @@ left-fails IsDue all line made ts us t fault.Memory leaves split reads opened bo
 
 -- at the brace, all statements were read
 pub left-ends : (all : List Token) (line : ℕ) (made : List Statement) (ts us : List Token) (t : Token) → Leaves all line made ts → ts ≡ t ∷ us → ((b : Stmts) (end : ℕ) (tail : List Token) → t ∷ us ≡ inside b end tail → None ≡ lead_of_stmts b)
-    → (opened : ℕ) (body : Stmts) (closed : ℕ) (after : List Token) → IsBlock all opened body closed after → (line ≡ opened) × (stmts_of made ≡ body) × (t.line ≡ closed) × (us ≡ after)
+    → (opened : ℕ) (body : Stmts) (closed : ℕ) (after : List Token) → IsBlockRead all opened body closed after → (line ≡ opened) × (stmts_of made ≡ body) × (t.line ≡ closed) × (us ≡ after)
 left-ends all line made ts us t leaves split ended opened body closed after is =
     let l = leaves opened body closed after is in
     let e : t ∷ us ≡ inside l.rest closed after = sym split ∙ l.parts in
@@ -74,7 +74,7 @@ left-ends all line made ts us t leaves split ended opened body closed after is =
     ends _ IsEnd e whole = let a = heads-is _ _ _ _ e in (whole, a.0, a.2)
 
 -- tokens of statements aren't none
-pub never-none : (all : List Token) (line : ℕ) (made : List Statement) (ts : List Token) → Leaves all line made ts → ts ≡ [] → (opened : ℕ) (body : Stmts) (closed : ℕ) (after : List Token) → IsBlock all opened body closed after → ⊥
+pub never-none : (all : List Token) (line : ℕ) (made : List Statement) (ts : List Token) → Leaves all line made ts → ts ≡ [] → (opened : ℕ) (body : Stmts) (closed : ℕ) (after : List Token) → IsBlockRead all opened body closed after → ⊥
 never-none all line made ts leaves none opened body closed after is =
     let l = leaves opened body closed after is in some-tokens l.rest closed after (sym none ∙ l.parts)
   where

@@ -67,29 +67,29 @@ abbrev pub inside : Stmts → ℕ → List Token → List Token
 inside body closed after = stmts_tokens body ++ mark closed sign.CloseBrace ∷ after
 
 -- the tokens are a block's, and others
-pub record IsBlock (ts : List Token) (opened : ℕ) (body : Stmts) (closed : ℕ) (after : List Token) : Type 0 where
+pub record IsBlockRead (ts : List Token) (opened : ℕ) (body : Stmts) (closed : ℕ) (after : List Token) : Type 0 where
   pub levels : ℕ
   pub parts : ts ≡ mark opened sign.OpenBrace ∷ inside body closed after
   pub derives : StmtsDerive body
   pub shallow : AreShallow levels body
 
 -- only memory can be wanting
-abbrev pub Reads : {X : Type 0} → Result X ParseFault → (X → Type 0) → Type 0
-Reads (Ok x) IsDue = IsDue x
-Reads (Err fault.NoKernel) IsDue = ⊥
-Reads (Err fault.Memory) IsDue = Unit {0}
+abbrev pub ReadsTo : {X : Type 0} → Result X ParseFault → (X → Type 0) → Type 0
+ReadsTo (Ok x) IsDue = IsDue x
+ReadsTo (Err fault.NoKernel) IsDue = ⊥
+ReadsTo (Err fault.Memory) IsDue = Unit {0}
 
 -- a statement was read, which is so before any rest, and these tokens are left
-abbrev pub IsRead : (Stmts → Stmts) → List Token → Statement → List Token → Type 0
-IsRead view after x left = ((rest : Stmts) → stmt_before x rest ≡ view rest) × (left ≡ after)
+abbrev pub IsStatementRead : (Stmts → Stmts) → List Token → Statement → List Token → Type 0
+IsStatementRead view after x left = ((rest : Stmts) → stmt_before x rest ≡ view rest) × (left ≡ after)
 
 -- behind `for`, a range, a schedule and a block are read as such a loop
 abbrev pub ReadsFor : ℕ → List Token → Result (Statement × Bor (List Token)) ParseFault → Type 0
 ReadsFor line tokens result =
     (name_line : ℕ) (name : List ℕ) (in_line : ℕ) (from : Tree) (dots : ℕ) (to : Tree) (s : ScheduleTree) (nowait : Option ℕ) (opened : ℕ) (body : Stmts) (closed : ℕ)
     (ts us vs after : List Token) → tokens ≡ named name_line name ∷ reserved in_line word.In ∷ ts → IsExpression ts from (mark dots sign.Dots ∷ us)
-    → IsExpression us to (schedule_tokens s ++ (nowait_tokens nowait ++ mark opened sign.OpenBrace ∷ vs)) → IsBlock (mark opened sign.OpenBrace ∷ vs) opened body closed after
-    → Reads result (λ x. IsRead (For line name_line name in_line from dots to s nowait opened body closed) after x.0 x.1.now)
+    → IsExpression us to (schedule_tokens s ++ (nowait_tokens nowait ++ mark opened sign.OpenBrace ∷ vs)) → IsBlockRead (mark opened sign.OpenBrace ∷ vs) opened body closed after
+    → ReadsTo result (λ x. IsStatementRead (For line name_line name in_line from dots to s nowait opened body closed) after x.0 x.1.now)
 
 -- the first of the statements was read, and the others are left
 pub record IsFirst (levels : ℕ) (b : Stmts) (end : ℕ) (tail : List Token) (x : Statement) (left : List Token) : Type 0 where

@@ -1,5 +1,6 @@
 -- The trees of the code, as those of the grammar.
 use Rattle.std.specs.Prelude.{ℕ, List, [], ◌∷◌, map}
+use Rattle.kernel_syntax.specs.Program.{in_sequence}
 use Rattle.kernel_text.specs.Grammar.{Tree, NumberAt, NameAt, TidAt, SpanAt, Element, Group, Minus, Binary, ScheduleTree, Unsaid, Static, StaticBy, Dynamic, DynamicBy, Stmts, NoMore, Let, Assign, Store, Update, If, IfElse, Loop, Parallel, For, Barrier, Critical, CriticalOf, Declaration, ArrayOf, MutexOf, KernelTree}
 use Rattle.kernel_parser.specs.declared.tree.Tree as code
 use Rattle.kernel_parser.specs.declared.tree.Tree.TheVariants as written
@@ -36,11 +37,6 @@ pub record BlockTree : Type 0 where
   pub opened : ℕ
   pub body : Stmts
   pub closed : ℕ
-
--- several statements before the rest, each given what follows it
-abbrev pub in_sequence : List (Stmts → Stmts) → Stmts → Stmts
-in_sequence [] rest = rest
-in_sequence (first ∷ others) rest = first (in_sequence others rest)
 
 -- one statement before the rest, given the blocks in it
 abbrev pub layer_stmt : Statement-F (Stmts → Stmts) BlockTree → Stmts → Stmts

@@ -6,7 +6,7 @@ ghost use Rattle.std.specs.Prelude.{◌≡◌, ◌≤◌, ℕ, List, ◌∷◌, 
 ghost use Rattle.kernel_text.specs.declared.token.Sign.TheVariants as sign;
 ghost use Rattle.kernel_text.specs.declared.token.Token.{Token as AToken};
 ghost use Rattle.kernel_text.specs.Grammar.{Tree as ATree, rank_of, right_rank, unary, named, reserved, mark};
-ghost use Rattle.kernel_parser.specs.Parsing.{IsExpression, IsPart, IsOperator, Reads};
+ghost use Rattle.kernel_parser.specs.Parsing.{IsExpression, IsPart, IsOperator, ReadsTo};
 ghost use Rattle.kernel_parser.specs.Trees.{tree_of};
 
 use crate::fault::ParseFault;
@@ -68,7 +68,7 @@ fn minus(
     tokens: &[Token],
     levels: u8,
 ) -> Result<(Tree, &[Token]), ParseFault>
-    ensures read { (t : ATree) (after : List AToken) → IsPart unary levels (mark line sign.Minus ∷ tokens.now) t after → Reads result (λ x. (tree_of x.0 ≡ t) × (x.1.now ≡ after)) }
+    ensures read { (t : ATree) (after : List AToken) → IsPart unary levels (mark line sign.Minus ∷ tokens.now) t after → ReadsTo result (λ x. (tree_of x.0 ≡ t) × (x.1.now ≡ after)) }
     ensures shorter { IfOk result (λ x. length x.1.now ≤ length tokens.now) }
 {
     if levels == 0 {
@@ -90,7 +90,7 @@ fn group(
     tokens: &[Token],
     levels: u8,
 ) -> Result<(Tree, &[Token]), ParseFault>
-    ensures read { (t : ATree) (after : List AToken) → IsPart unary levels (mark opened sign.OpenParen ∷ tokens.now) t after → Reads result (λ x. (tree_of x.0 ≡ t) × (x.1.now ≡ after)) }
+    ensures read { (t : ATree) (after : List AToken) → IsPart unary levels (mark opened sign.OpenParen ∷ tokens.now) t after → ReadsTo result (λ x. (tree_of x.0 ≡ t) × (x.1.now ≡ after)) }
     ensures shorter { IfOk result (λ x. length x.1.now ≤ length tokens.now) }
 {
     if levels == 0 {
@@ -115,7 +115,7 @@ fn name(
     tokens: &[Token],
     levels: u8,
 ) -> Result<(Tree, &[Token]), ParseFault>
-    ensures read { (t : ATree) (after : List AToken) → IsPart unary levels (named line name ∷ tokens.now) t after → Reads result (λ x. (tree_of x.0 ≡ t) × (x.1.now ≡ after)) }
+    ensures read { (t : ATree) (after : List AToken) → IsPart unary levels (named line name ∷ tokens.now) t after → ReadsTo result (λ x. (tree_of x.0 ≡ t) × (x.1.now ≡ after)) }
     ensures shorter { IfOk result (λ x. length x.1.now ≤ length tokens.now) }
 {
     if !is_open_bracket(tokens) {
@@ -139,7 +139,7 @@ fn name(
 
 /// The operand that is a reserved name.
 fn word(line: u32, word: Word, tokens: &[Token]) -> Result<(Tree, &[Token]), ParseFault>
-    ensures read { (levels : ℕ) (t : ATree) (after : List AToken) → IsPart unary levels (reserved line word ∷ tokens.now) t after → Reads result (λ x. (tree_of x.0 ≡ t) × (x.1.now ≡ after)) }
+    ensures read { (levels : ℕ) (t : ATree) (after : List AToken) → IsPart unary levels (reserved line word ∷ tokens.now) t after → ReadsTo result (λ x. (tree_of x.0 ≡ t) × (x.1.now ≡ after)) }
     ensures shorter { IfOk result (λ x. length x.1.now ≤ length tokens.now) }
 {
     match word {
@@ -158,7 +158,7 @@ fn sign(
     tokens: &[Token],
     levels: u8,
 ) -> Result<(Tree, &[Token]), ParseFault>
-    ensures read { (t : ATree) (after : List AToken) → IsPart unary levels (mark line first ∷ tokens.now) t after → Reads result (λ x. (tree_of x.0 ≡ t) × (x.1.now ≡ after)) }
+    ensures read { (t : ATree) (after : List AToken) → IsPart unary levels (mark line first ∷ tokens.now) t after → ReadsTo result (λ x. (tree_of x.0 ≡ t) × (x.1.now ≡ after)) }
     ensures shorter { IfOk result (λ x. length x.1.now ≤ length tokens.now) }
 {
     match first {
@@ -171,7 +171,7 @@ fn sign(
 /// What stands between operators.
 #[cycle(expression)]
 fn operand(alloc: Global, tokens: &[Token], levels: u8) -> Result<(Tree, &[Token]), ParseFault>
-    ensures read { (t : ATree) (after : List AToken) → IsPart unary levels tokens.now t after → Reads result (λ x. (tree_of x.0 ≡ t) × (x.1.now ≡ after)) }
+    ensures read { (t : ATree) (after : List AToken) → IsPart unary levels tokens.now t after → ReadsTo result (λ x. (tree_of x.0 ≡ t) × (x.1.now ≡ after)) }
     ensures shorter { IfOk result (λ x. length x.1.now ≤ length tokens.now) }
 {
     let Some((token, rest)) = tokens.split_first() else {
@@ -197,7 +197,7 @@ fn part(
     rank: u8,
     levels: u8,
 ) -> Result<(Tree, &[Token]), ParseFault>
-    ensures read { (t : ATree) (after : List AToken) → IsPart rank levels tokens.now t after → Reads result (λ x. (tree_of x.0 ≡ t) × (x.1.now ≡ after)) }
+    ensures read { (t : ATree) (after : List AToken) → IsPart rank levels tokens.now t after → ReadsTo result (λ x. (tree_of x.0 ≡ t) × (x.1.now ≡ after)) }
     ensures shorter { IfOk result (λ x. length x.1.now ≤ length tokens.now) }
 {
     let (mut held, mut rest) = operand(alloc, tokens, levels)?;
@@ -217,7 +217,7 @@ fn part(
 
 /// The expression at the start of tokens, and the tokens behind it.
 pub fn expression(alloc: Global, tokens: &[Token]) -> Result<(Tree, &[Token]), ParseFault>
-    ensures read { (t : ATree) (after : List AToken) → IsExpression tokens.now t after → Reads result (λ x. (tree_of x.0 ≡ t) × (x.1.now ≡ after)) }
+    ensures read { (t : ATree) (after : List AToken) → IsExpression tokens.now t after → ReadsTo result (λ x. (tree_of x.0 ≡ t) × (x.1.now ≡ after)) }
     ensures shorter { IfOk result (λ x. length x.1.now ≤ length tokens.now) }
 {
     part(alloc, tokens, EXPR, MOST_LEVELS)

@@ -7,7 +7,7 @@ ghost use Rattle.kernel_text.specs.declared.token.Word.TheVariants as word;
 ghost use Rattle.kernel_text.specs.Grammar as grammar;
 ghost use Rattle.kernel_text.specs.Grammar.{named, number, reserved, declaration_tokens, declarations_tokens, kernel_tokens, IsKernel, IsShallow};
 ghost use Rattle.kernel_parser.specs.Trees.{declaration_of, kernel_of};
-ghost use Rattle.kernel_parser.specs.Parsing.{Reads, IsDeclared};
+ghost use Rattle.kernel_parser.specs.Parsing.{ReadsTo, IsDeclared};
 
 use crate::fault::ParseFault;
 use crate::lookahead::{name_of, number_of, skip};
@@ -83,7 +83,7 @@ fn declaration<'a>(token: &Token, rest: &'a [Token]) -> Option<(Declaration, &'a
 
 /// The declarations at the start of tokens, and the tokens behind them.
 fn declarations(alloc: Global, tokens: &[Token]) -> Result<(Vec<Declaration>, &[Token]), ParseFault>
-    ensures parsed { (ds : List grammar.Declaration) (line : ℕ) (after : List AToken) → tokens.now ≡ declarations_tokens ds ++ reserved line word.Main ∷ after → Reads result (λ x. (map declaration_of x.0.items ≡ ds) × (x.1.now ≡ reserved line word.Main ∷ after)) }
+    ensures parsed { (ds : List grammar.Declaration) (line : ℕ) (after : List AToken) → tokens.now ≡ declarations_tokens ds ++ reserved line word.Main ∷ after → ReadsTo result (λ x. (map declaration_of x.0.items ≡ ds) × (x.1.now ≡ reserved line word.Main ∷ after)) }
 {
     let mut made = Vec::new(alloc);
     let mut rest = tokens;
@@ -99,7 +99,7 @@ fn declarations(alloc: Global, tokens: &[Token]) -> Result<(Vec<Declaration>, &[
 
 /// The tree of tokens that are a kernel by the grammar, whose levels are at most 32.
 pub fn parse(alloc: Global, tokens: &[Token]) -> Result<KernelTree, ParseFault>
-    ensures { (k : grammar.KernelTree) → tokens.now ≡ kernel_tokens k → IsKernel k → IsShallow k → Reads result (λ x. kernel_of x ≡ k) }
+    ensures { (k : grammar.KernelTree) → tokens.now ≡ kernel_tokens k → IsKernel k → IsShallow k → ReadsTo result (λ x. kernel_of x ≡ k) }
 {
     let (declarations, rest) = declarations(alloc, tokens)?;
     let (line, rest) = skip(rest);

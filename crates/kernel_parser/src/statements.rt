@@ -9,7 +9,7 @@ ghost use Rattle.kernel_text.specs.declared.token.Word.TheVariants as word;
 ghost use Rattle.kernel_text.specs.Grammar as grammar;
 ghost use Rattle.kernel_text.specs.Grammar.{Stmts, StmtsDerive, AreShallow, named, mark, reserved, number, schedule_tokens, nowait_tokens, update_sign};
 ghost use Rattle.kernel_parser.specs.Trees.{tree_of, schedule_tree, stmts_of};
-ghost use Rattle.kernel_parser.specs.Parsing.{IsExpression, IsBlock, IsRead, IsFirst, StartsWith, Reads, ReadsFor, inside, lead_of_stmts};
+ghost use Rattle.kernel_parser.specs.Parsing.{IsExpression, IsBlockRead, IsStatementRead, IsFirst, StartsWith, ReadsTo, ReadsFor, inside, lead_of_stmts};
 
 use crate::expression::expression;
 use crate::fault::ParseFault;
@@ -25,7 +25,7 @@ use std::alloc::Global;
 /// NAME `=` expr, behind `let`
 #[tactic(auto, using(crate::proofs::Equations::before_let))]
 fn let_stmt(alloc: Global, line: u32, tokens: &[Token]) -> Result<(Statement, &[Token]), ParseFault>
-    ensures parsed { (name_line : ℕ) (name : List ℕ) (sign_line : ℕ) (value : grammar.Tree) (ts after : List AToken) → tokens.now ≡ named name_line name ∷ mark sign_line sign.Assign ∷ ts → IsExpression ts value after → Reads result (λ x. IsRead (grammar.Let line name_line name sign_line value) after x.0 x.1.now) }
+    ensures parsed { (name_line : ℕ) (name : List ℕ) (sign_line : ℕ) (value : grammar.Tree) (ts after : List AToken) → tokens.now ≡ named name_line name ∷ mark sign_line sign.Assign ∷ ts → IsExpression ts value after → ReadsTo result (λ x. IsStatementRead (grammar.Let line name_line name sign_line value) after x.0 x.1.now) }
     ensures shorter { IfOk result (λ x. length x.1.now ≤ length tokens.now) }
 {
     let name = name_of(tokens);
@@ -50,7 +50,7 @@ fn assign_stmt(
     name: Name,
     tokens: &[Token],
 ) -> Result<(Statement, &[Token]), ParseFault>
-    ensures parsed { (sign_line : ℕ) (value : grammar.Tree) (ts after : List AToken) → tokens.now ≡ mark sign_line sign.Assign ∷ ts → IsExpression ts value after → Reads result (λ x. IsRead (grammar.Assign line name sign_line value) after x.0 x.1.now) }
+    ensures parsed { (sign_line : ℕ) (value : grammar.Tree) (ts after : List AToken) → tokens.now ≡ mark sign_line sign.Assign ∷ ts → IsExpression ts value after → ReadsTo result (λ x. IsStatementRead (grammar.Assign line name sign_line value) after x.0 x.1.now) }
     ensures shorter { IfOk result (λ x. length x.1.now ≤ length tokens.now) }
 {
     let (sign_line, rest) = skip(tokens);
@@ -72,7 +72,7 @@ fn store_stmt(
     name: Name,
     tokens: &[Token],
 ) -> Result<(Statement, &[Token]), ParseFault>
-    ensures parsed { (opened : ℕ) (index : grammar.Tree) (closed sign_line : ℕ) (value : grammar.Tree) (ts us after : List AToken) → tokens.now ≡ mark opened sign.OpenBracket ∷ ts → IsExpression ts index (mark closed sign.CloseBracket ∷ mark sign_line sign.Assign ∷ us) → IsExpression us value after → Reads result (λ x. IsRead (grammar.Store line name opened index closed sign_line value) after x.0 x.1.now) }
+    ensures parsed { (opened : ℕ) (index : grammar.Tree) (closed sign_line : ℕ) (value : grammar.Tree) (ts us after : List AToken) → tokens.now ≡ mark opened sign.OpenBracket ∷ ts → IsExpression ts index (mark closed sign.CloseBracket ∷ mark sign_line sign.Assign ∷ us) → IsExpression us value after → ReadsTo result (λ x. IsStatementRead (grammar.Store line name opened index closed sign_line value) after x.0 x.1.now) }
     ensures shorter { IfOk result (λ x. length x.1.now ≤ length tokens.now) }
 {
     let (opened, rest) = skip(tokens);
@@ -99,7 +99,7 @@ fn update_stmt(
     line: u32,
     tokens: &[Token],
 ) -> Result<(Statement, &[Token]), ParseFault>
-    ensures parsed { (name_line : ℕ) (name : List ℕ) (opened : ℕ) (index : grammar.Tree) (closed : ℕ) (minus : Bool) (sign_line : ℕ) (value : grammar.Tree) (ts us after : List AToken) → tokens.now ≡ named name_line name ∷ mark opened sign.OpenBracket ∷ ts → IsExpression ts index (mark closed sign.CloseBracket ∷ mark sign_line (update_sign minus) ∷ us) → IsExpression us value after → Reads result (λ x. IsRead (grammar.Update line name_line name opened index closed minus sign_line value) after x.0 x.1.now) }
+    ensures parsed { (name_line : ℕ) (name : List ℕ) (opened : ℕ) (index : grammar.Tree) (closed : ℕ) (minus : Bool) (sign_line : ℕ) (value : grammar.Tree) (ts us after : List AToken) → tokens.now ≡ named name_line name ∷ mark opened sign.OpenBracket ∷ ts → IsExpression ts index (mark closed sign.CloseBracket ∷ mark sign_line (update_sign minus) ∷ us) → IsExpression us value after → ReadsTo result (λ x. IsStatementRead (grammar.Update line name_line name opened index closed minus sign_line value) after x.0 x.1.now) }
     ensures shorter { IfOk result (λ x. length x.1.now ≤ length tokens.now) }
 {
     let name = name_of(tokens);
@@ -126,7 +126,7 @@ fn update_stmt(
 
 /// NAME `in` expr `..` expr
 fn range(alloc: Global, tokens: &[Token]) -> Result<(Range, &[Token]), ParseFault>
-    ensures parsed { (name_line : ℕ) (name : List ℕ) (in_line : ℕ) (from : grammar.Tree) (dots : ℕ) (to : grammar.Tree) (ts us after : List AToken) → tokens.now ≡ named name_line name ∷ reserved in_line word.In ∷ ts → IsExpression ts from (mark dots sign.Dots ∷ us) → IsExpression us to after → Reads result (λ x. (x.0.name_line ≡ name_line) × (x.0.name ≡ name) × (x.0.in_line ≡ in_line) × (tree_of x.0.from ≡ from) × (x.0.dots ≡ dots) × (tree_of x.0.to ≡ to) × (x.1.now ≡ after)) }
+    ensures parsed { (name_line : ℕ) (name : List ℕ) (in_line : ℕ) (from : grammar.Tree) (dots : ℕ) (to : grammar.Tree) (ts us after : List AToken) → tokens.now ≡ named name_line name ∷ reserved in_line word.In ∷ ts → IsExpression ts from (mark dots sign.Dots ∷ us) → IsExpression us to after → ReadsTo result (λ x. (x.0.name_line ≡ name_line) × (x.0.name ≡ name) × (x.0.in_line ≡ in_line) × (tree_of x.0.from ≡ from) × (x.0.dots ≡ dots) × (tree_of x.0.to ≡ to) × (x.1.now ≡ after)) }
     ensures shorter { IfOk result (λ x. length x.1.now ≤ length tokens.now) }
 {
     let name = name_of(tokens);
@@ -199,8 +199,8 @@ fn nowait(tokens: &[Token]) -> (Option<u32>, &[Token])
 #[cycle(statements)]
 #[tactic(auto, using(crate::proofs::Equations::before_if, crate::proofs::Equations::before_if_else))]
 fn if_stmt(alloc: Global, line: u32, tokens: &[Token]) -> Result<(Statement, &[Token]), ParseFault>
-    ensures alone { (test : grammar.Tree) (opened : ℕ) (body : Stmts) (closed : ℕ) (ts after : List AToken) → IsExpression tokens.now test ts → IsBlock ts opened body closed after → (StartsWith (Reserved word.Else) after → ⊥) → Reads result (λ x. IsRead (grammar.If line test opened body closed) after x.0 x.1.now) }
-    ensures both { (test : grammar.Tree) (opened : ℕ) (yes : Stmts) (closed else_line else_opened : ℕ) (other : Stmts) (else_closed : ℕ) (ts us after : List AToken) → IsExpression tokens.now test ts → IsBlock ts opened yes closed (reserved else_line word.Else ∷ us) → IsBlock us else_opened other else_closed after → Reads result (λ x. IsRead (grammar.IfElse line test opened yes closed else_line else_opened other else_closed) after x.0 x.1.now) }
+    ensures alone { (test : grammar.Tree) (opened : ℕ) (body : Stmts) (closed : ℕ) (ts after : List AToken) → IsExpression tokens.now test ts → IsBlockRead ts opened body closed after → (StartsWith (Reserved word.Else) after → ⊥) → ReadsTo result (λ x. IsStatementRead (grammar.If line test opened body closed) after x.0 x.1.now) }
+    ensures both { (test : grammar.Tree) (opened : ℕ) (yes : Stmts) (closed else_line else_opened : ℕ) (other : Stmts) (else_closed : ℕ) (ts us after : List AToken) → IsExpression tokens.now test ts → IsBlockRead ts opened yes closed (reserved else_line word.Else ∷ us) → IsBlockRead us else_opened other else_closed after → ReadsTo result (λ x. IsStatementRead (grammar.IfElse line test opened yes closed else_line else_opened other else_closed) after x.0 x.1.now) }
     ensures shorter { IfOk result (λ x. length x.1.now ≤ length tokens.now) }
 {
     let (test, rest) = expression(alloc, tokens)?;
@@ -228,7 +228,7 @@ fn loop_stmt(
     line: u32,
     tokens: &[Token],
 ) -> Result<(Statement, &[Token]), ParseFault>
-    ensures parsed { (name_line : ℕ) (name : List ℕ) (in_line : ℕ) (from : grammar.Tree) (dots : ℕ) (to : grammar.Tree) (opened : ℕ) (body : Stmts) (closed : ℕ) (ts us vs after : List AToken) → tokens.now ≡ named name_line name ∷ reserved in_line word.In ∷ ts → IsExpression ts from (mark dots sign.Dots ∷ us) → IsExpression us to vs → IsBlock vs opened body closed after → Reads result (λ x. IsRead (grammar.Loop line name_line name in_line from dots to opened body closed) after x.0 x.1.now) }
+    ensures parsed { (name_line : ℕ) (name : List ℕ) (in_line : ℕ) (from : grammar.Tree) (dots : ℕ) (to : grammar.Tree) (opened : ℕ) (body : Stmts) (closed : ℕ) (ts us vs after : List AToken) → tokens.now ≡ named name_line name ∷ reserved in_line word.In ∷ ts → IsExpression ts from (mark dots sign.Dots ∷ us) → IsExpression us to vs → IsBlockRead vs opened body closed after → ReadsTo result (λ x. IsStatementRead (grammar.Loop line name_line name in_line from dots to opened body closed) after x.0 x.1.now) }
     ensures shorter { IfOk result (λ x. length x.1.now ≤ length tokens.now) }
 {
     let (range, rest) = range(alloc, tokens)?;
@@ -244,7 +244,7 @@ fn parallel_stmt(
     line: u32,
     tokens: &[Token],
 ) -> Result<(Statement, &[Token]), ParseFault>
-    ensures parsed { (number_line : ℕ) (span : ℤ) (opened : ℕ) (body : Stmts) (closed : ℕ) (ts after : List AToken) → tokens.now ≡ number number_line span ∷ ts → IsBlock ts opened body closed after → Reads result (λ x. IsRead (grammar.Parallel line number_line span opened body closed) after x.0 x.1.now) }
+    ensures parsed { (number_line : ℕ) (span : ℤ) (opened : ℕ) (body : Stmts) (closed : ℕ) (ts after : List AToken) → tokens.now ≡ number number_line span ∷ ts → IsBlockRead ts opened body closed after → ReadsTo result (λ x. IsStatementRead (grammar.Parallel line number_line span opened body closed) after x.0 x.1.now) }
     ensures shorter { IfOk result (λ x. length x.1.now ≤ length tokens.now) }
 {
     let span = number_of(tokens);
@@ -288,8 +288,8 @@ fn critical_stmt(
     line: u32,
     tokens: &[Token],
 ) -> Result<(Statement, &[Token]), ParseFault>
-    ensures plain { (opened : ℕ) (body : Stmts) (closed : ℕ) (after : List AToken) → IsBlock tokens.now opened body closed after → Reads result (λ x. IsRead (grammar.Critical line opened body closed) after x.0 x.1.now) }
-    ensures of { (name_line : ℕ) (name : List ℕ) (opened : ℕ) (body : Stmts) (closed : ℕ) (ts after : List AToken) → tokens.now ≡ named name_line name ∷ ts → IsBlock ts opened body closed after → Reads result (λ x. IsRead (grammar.CriticalOf line name_line name opened body closed) after x.0 x.1.now) }
+    ensures plain { (opened : ℕ) (body : Stmts) (closed : ℕ) (after : List AToken) → IsBlockRead tokens.now opened body closed after → ReadsTo result (λ x. IsStatementRead (grammar.Critical line opened body closed) after x.0 x.1.now) }
+    ensures of { (name_line : ℕ) (name : List ℕ) (opened : ℕ) (body : Stmts) (closed : ℕ) (ts after : List AToken) → tokens.now ≡ named name_line name ∷ ts → IsBlockRead ts opened body closed after → ReadsTo result (λ x. IsStatementRead (grammar.CriticalOf line name_line name opened body closed) after x.0 x.1.now) }
     ensures shorter { IfOk result (λ x. length x.1.now ≤ length tokens.now) }
 {
     if !is_name(tokens) {
@@ -317,7 +317,7 @@ fn stmt<'a>(
     rest: &'a [Token],
 ) -> Result<(Statement, &'a [Token]), ParseFault>
     requires { (b : Stmts) (end : ℕ) (tail : List AToken) → token.now ∷ rest.now ≡ inside b end tail → Some lead ≡ lead_of_stmts b }
-    ensures parsed { (b : Stmts) (end : ℕ) (tail : List AToken) (n : ℕ) → token.now ∷ rest.now ≡ inside b end tail → StmtsDerive b → AreShallow n b → Reads result (λ x. IsFirst n b end tail x.0 x.1.now) }
+    ensures parsed { (b : Stmts) (end : ℕ) (tail : List AToken) (n : ℕ) → token.now ∷ rest.now ≡ inside b end tail → StmtsDerive b → AreShallow n b → ReadsTo result (λ x. IsFirst n b end tail x.0 x.1.now) }
     ensures shorter { IfOk result (λ x. length x.1.now ≤ length rest.now) }
 {
     let line = token.line;
@@ -338,7 +338,7 @@ fn stmt<'a>(
 /// Statements between braces, and the tokens behind them.
 #[cycle(statements)]
 pub fn block(alloc: Global, tokens: &[Token]) -> Result<(Block, &[Token]), ParseFault>
-    ensures parsed { (opened : ℕ) (body : Stmts) (closed : ℕ) (after : List AToken) → IsBlock tokens.now opened body closed after → Reads result (λ x. (x.0.opened ≡ opened) × (stmts_of x.0.stmts.items ≡ body) × (x.0.closed ≡ closed) × (x.1.now ≡ after)) }
+    ensures parsed { (opened : ℕ) (body : Stmts) (closed : ℕ) (after : List AToken) → IsBlockRead tokens.now opened body closed after → ReadsTo result (λ x. (x.0.opened ≡ opened) × (stmts_of x.0.stmts.items ≡ body) × (x.0.closed ≡ closed) × (x.1.now ≡ after)) }
     ensures shorter { IfOk result (λ x. length x.1.now ≤ length tokens.now) }
 {
     let (opened, inner) = skip(tokens);

@@ -5,7 +5,7 @@ use Rattle.kernel_syntax.specs.declared.syntax.Kernel.{Kernel}
 use Rattle.kernel_syntax.specs.Program.{Program, program_of}
 use Rattle.kernel_syntax.specs.Bounds.{IsBounded}
 use Rattle.kernel_text.specs.declared.token.Token.{Token}
-use Rattle.kernel_text.specs.declared.judging.Verdict.TheVariants as verdict
+use Rattle.kernel_text.specs.declared.judging.Judgement.TheVariants as verdict
 use Rattle.kernel_text.specs.Tokens.{Refusal, tokens_of}
 use Rattle.kernel_text.specs.Grammar.{KernelTree, kernel_tokens, IsKernel, IsShallow}
 use Rattle.kernel_text.specs.Faults.{IsVerdict}

@@ -11,7 +11,7 @@ use Rattle.kernel_text.specs.Grammar.{Stmts, NoMore}
 use Rattle.kernel_reader.specs.Rules.{stmts_faults, holds_work, weight}
 use Rattle.kernel_reader.specs.Resolve.{code}
 use Rattle.kernel_reader.specs.Settled.{IsFirstOf, capped}
-use Rattle.kernel_reader.specs.Folding.{place_of, IsRead, IsLeft, IsAdvance}
+use Rattle.kernel_reader.specs.Folding.{names_at, IsFolded, IsLeft, IsAdvance}
 use Rattle.kernel_reader.specs.declared.binding.Variable.{Variable}
 use Rattle.kernel_reader.specs.declared.fault.ReadKernelFault.{ReadKernelFault}
 use Rattle.kernel_reader.specs.declared.place.State.{State}
@@ -32,7 +32,7 @@ pub left-steps : (arrays : List Array) (mutexes : List (List ℕ)) (old now new 
     → IsLeft arrays mutexes old now section b c made w working → IsAdvance arrays mutexes now new section c rest x → more ≡ made ++ x.stmt ∷ [] → v ≡ capped (w + x.weight) → work ≡ (working || x.works)
     → IsLeft arrays mutexes old new section b rest more v work
 left-steps arrays mutexes old now new section b c rest made more w v working work x l a more_is weight_is works_is =
-    let next : Code = code (place_of arrays mutexes new section) new.site rest in
+    let next : Code = code (names_at arrays mutexes new section) new.site rest in
     record {
       faults = l.faults ∙ a.faults;
       code_is = l.code_is ∙ ap (stmts_code made) a.code_is ∙ sym (ap (λ (xs : List Stmt). stmts_code xs next) more_is ∙ stmts_code-append made (x.stmt ∷ []) next);
@@ -44,13 +44,13 @@ left-steps arrays mutexes old now new section b c rest made more w v working wor
 
 -- a rule that the next one breaks is the first of all
 pub left-fails : (arrays : List Array) (mutexes : List (List ℕ)) (old now : State) (section : Section) (b c : Stmts) (made : List Stmt) (w : ℕ) (working : Bool) (f : ReadKernelFault)
-    → IsLeft arrays mutexes old now section b c made w working → IsFirstOf (stmts_faults (place_of arrays mutexes now section) c) f → IsFirstOf (stmts_faults (place_of arrays mutexes old section) b) f
+    → IsLeft arrays mutexes old now section b c made w working → IsFirstOf (stmts_faults (names_at arrays mutexes now section) c) f → IsFirstOf (stmts_faults (names_at arrays mutexes old section) b) f
 left-fails arrays mutexes old now section b c made w working f l told = subst (λ (faults : List Refusal). IsFirstOf faults f) (sym l.faults) told
 
 -- all statements were read
 pub left-ends : (arrays : List Array) (mutexes : List (List ℕ)) (old now new : State) (section : Section) (b : Stmts) (made : List Stmt) (w : ℕ) (working : Bool) (x : Folded)
     → IsLeft arrays mutexes old now section b NoMore made w working → x.body.stmts.items ≡ made → x.weight ≡ w → x.works ≡ working → w ≤ 65537 → new.slot ≡ now.slot → new.site ≡ now.site
-    → (stmts_faults (place_of arrays mutexes old section) b ≡ []) × IsRead arrays mutexes old new section b x
+    → (stmts_faults (names_at arrays mutexes old section) b ≡ []) × IsFolded arrays mutexes old new section b x
 left-ends arrays mutexes old now new section b made w working x l made_is weight_is works_is small slot_is site_is = (
   l.faults,
   record {

@@ -5,7 +5,7 @@ use Rattle.std.proofs.lemmas.List.Elements.{All-from_recursion, recursion_from_A
 use Rattle.kernel_syntax.specs.Program.{Program}
 use Rattle.kernel_text.specs.declared.token.Token.{Token}
 use Rattle.kernel_text.specs.declared.fault.KernelWhy.TheVariants as why
-use Rattle.kernel_text.specs.declared.judging.Verdict.TheVariants as verdict
+use Rattle.kernel_text.specs.declared.judging.Judgement.TheVariants as verdict
 use Rattle.kernel_text.specs.Tokens.{Refusal, tokens_of, line_at}
 use Rattle.kernel_text.specs.Grammar.{kernel_tokens}
 use Rattle.kernel_text.specs.Faults.{kernel_levels, IsSyntaxFault, IsTooDeep, EndsEarly, IsVerdict}

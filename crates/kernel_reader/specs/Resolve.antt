@@ -69,8 +69,8 @@ abbrev pub change : {X : Type 0} → (ℕ → Term → Term → X) → Names →
 change made n site name index value = made (array_at n name) (term n (site + 1) index) (term n (site + 1 + sites index) value)
 
 -- these are its array, its index and its value
-abbrev pub IsChange : Names → ℕ → List ℕ → Tree → Tree → ℕ → Term → Term → Type 0
-IsChange n site name index value array at amount = (array ≡ array_at n name) × (at ≡ term n (site + 1) index) × (amount ≡ term n (site + 1 + sites index) value)
+abbrev pub IsResolved : Names → ℕ → List ℕ → Tree → Tree → ℕ → Term → Term → Type 0
+IsResolved n site name index value array at amount = (array ≡ array_at n name) × (at ≡ term n (site + 1) index) × (amount ≡ term n (site + 1 + sites index) value)
 
 abbrev pub code : Place → ℕ → Stmts → Code
 code p site NoMore = kernel.Done

@@ -17,7 +17,7 @@ use crate::fault::ReadKernelFault;
 use crate::place::{Known, Section, State};
 use kernel_parser::{KernelTree, ParseFault, parse};
 use kernel_syntax::{Kernel, Team, layout};
-use kernel_text::{KernelWhy, TextFault, Token, Verdict, judge, line_at, tokens};
+use kernel_text::{Judgement, KernelWhy, TextFault, Token, judge, line_at, tokens};
 use std::alloc::Global;
 
 /// The kernel of tokens that are one by the grammar.
@@ -90,16 +90,16 @@ fn kernel_of(alloc: Global, text: &[u8], found: &[Token]) -> Result<Kernel, Read
     ensures none { IfErr result (λ fault. HasNoKernel text.now fault) }
 {
     match judge(alloc, found)? {
-        Verdict::Kernel => kernel_at(alloc, found),
-        Verdict::Syntax { line } => Err(ReadKernelFault::Refused {
+        Judgement::Kernel => kernel_at(alloc, found),
+        Judgement::Syntax { line } => Err(ReadKernelFault::Refused {
             line,
             why: KernelWhy::Syntax,
         }),
-        Verdict::Deep { line } => Err(ReadKernelFault::Refused {
+        Judgement::Deep { line } => Err(ReadKernelFault::Refused {
             line,
             why: KernelWhy::Deep,
         }),
-        Verdict::Early => Err(ReadKernelFault::Refused {
+        Judgement::Early => Err(ReadKernelFault::Refused {
             line: line_at(text, text.len()),
             why: KernelWhy::Syntax,
         }),

@@ -10,11 +10,11 @@ ghost use Rattle.kernel_text.specs.Grammar as grammar;
 ghost use Rattle.kernel_text.specs.Grammar.{Stmts, NoMore};
 ghost use Rattle.kernel_parser.specs.Trees.{tree_of, schedule_tree, stmt_before, stmts_of};
 ghost use Rattle.kernel_reader.specs.Scope.{slots};
-ghost use Rattle.kernel_reader.specs.Resolve.{sites, stmts_sites, term, slot_of, change, IsChange};
+ghost use Rattle.kernel_reader.specs.Resolve.{sites, stmts_sites, term, slot_of, change, IsResolved};
 ghost use Rattle.kernel_reader.specs.Rules.{tree_faults, change_faults, stmts_faults};
 ghost use Rattle.kernel_reader.specs.Settled.{Settles};
 ghost use Rattle.kernel_reader.specs.Naming.{names_of, names_in, assigned_to, taken_faults};
-ghost use Rattle.kernel_reader.specs.Folding.{place_of, IsRead, IsFirstRead};
+ghost use Rattle.kernel_reader.specs.Folding.{names_at, IsFolded, IsFirstRead};
 
 use crate::binding::refused;
 use crate::fault::ReadKernelFault;
@@ -219,7 +219,7 @@ impl Known<'_> {
         requires few { length self.now.arrays.now ≤ 64 }
         requires room { state.old.site + 1 + sites (tree_of index.now) + sites (tree_of value.now) < 65536 }
         ensures settled { Settles result (change_faults (names_in self.now.arrays.now state.old) line name.now (tree_of index.now) (tree_of value.now))
-            (λ x. IsChange (names_in self.now.arrays.now state.old) state.old.site name.now (tree_of index.now) (tree_of value.now) x.0 (term_of x.1) (term_of x.2)) }
+            (λ x. IsResolved (names_in self.now.arrays.now state.old) state.old.site name.now (tree_of index.now) (tree_of value.now) x.0 (term_of x.1) (term_of x.2)) }
         ensures site { OnOk result (state.new.site ≡ state.old.site + 1 + sites (tree_of index.now) + sites (tree_of value.now)) }
         ensures slot { state.new.slot ≡ state.old.slot }
         ensures variables { state.new.variables.items ≡ state.old.variables.items }
@@ -601,7 +601,7 @@ impl Known<'_> {
         requires few_mutexes { length self.now.mutexes.now ≤ 63 }
         requires room { state.old.site + stmts_sites (stmts_of block.now.stmts.items) < 65536 }
         requires slots { state.old.slot + slots (stmts_of block.now.stmts.items) ≤ 65536 }
-        ensures reads { Settles result (stmts_faults (place_of self.now.arrays.now self.now.mutexes.now state.old section) (stmts_of block.now.stmts.items)) (IsRead self.now.arrays.now self.now.mutexes.now state.old state.new section (stmts_of block.now.stmts.items)) }
+        ensures reads { Settles result (stmts_faults (names_at self.now.arrays.now self.now.mutexes.now state.old section) (stmts_of block.now.stmts.items)) (IsFolded self.now.arrays.now self.now.mutexes.now state.old state.new section (stmts_of block.now.stmts.items)) }
         ensures weight { IfOk result (λ x. x.weight ≤ 65537) }
         ensures variables { OnOk result (state.new.variables.items ≡ state.old.variables.items) }
     {

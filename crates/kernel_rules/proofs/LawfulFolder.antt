@@ -3,6 +3,7 @@ use Rattle.std.proofs.Common.{◌≡◌, refl, ap, sym, ◌∙◌, subst, ℕ, s
 use Rattle.std.specs.Prelude.{map, Contains, option_map}
 use Rattle.std.proofs.lemmas.List.Elements.{All-nil, All-cons, All-push, All-replicate}
 use Rattle.std.proofs.lemmas.Option.{same_Some, none-some, slice_get-map, slice_get_within}
+use Rattle.log_format.specs.Limit.{record_limit}
 use Rattle.log_format.specs.declared.format.TheConstants.{FORMAT}
 use Rattle.sw_base.specs.declared.path.Step.{Step}
 use Rattle.log_format.specs.declared.record.Record.{Record}
@@ -20,7 +21,7 @@ use Rattle.race_model.proofs.TraceLogs.{all_at, find_listed}
 use Rattle.kernel_syntax.specs.Program.{Program}
 use Rattle.kernel_syntax.specs.Tree.{TeamTree}
 use Rattle.kernel_model.specs.State.{Fork, reads_of, chunks_of}
-use Rattle.kernel_model.specs.Trace.{Start, log_limit}
+use Rattle.kernel_model.specs.Trace.{Start}
 use Rattle.kernel_model.specs.Folder.{own_trace, root_start, lane_start, start_at, IsTraced, IsTracedTask, IsTracedFolder, paths_of}
 use Rattle.kernel_model.specs.Lawful.{IsLawful, code_holds_work}
 use Rattle.kernel_model.specs.Parts.{parts_of, bar_count}
@@ -51,7 +52,7 @@ row_count [] = refl
 row_count (t ∷ tasks) = ap suc (row_count tasks)
 
 -- a trace fits a log
-trace_limit : (program : Program) (start : Start) (records : List Record) → IsTraced program start records → length records ≤ log_limit
+trace_limit : (program : Program) (start : Start) (records : List Record) → IsTraced program start records → length records ≤ record_limit
 trace_limit program start records traced =
     let grows = task-grows program start (reads_of records) (chunks_of records) in
     let count : length records ≡ length grows.added = ap length (sym traced.records_are ∙ grows.records_are) in
@@ -59,7 +60,7 @@ trace_limit program start records traced =
     omega (arith, count, room)
 
 -- a task forks at most as many regions as it has records
-fork_limit : (program : Program) (start : Start) (records : List Record) → length (own_trace program start records).forks ≤ log_limit
+fork_limit : (program : Program) (start : Start) (records : List Record) → length (own_trace program start records).forks ≤ record_limit
 fork_limit program start records =
     let grows = task-grows program start (reads_of records) (chunks_of records) in
     let forks : length (own_trace program start records).forks ≡ length grows.regions = ap length grows.forks_are in

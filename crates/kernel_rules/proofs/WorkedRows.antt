@@ -12,7 +12,8 @@ use Rattle.log_format.specs.declared.record.Record.{Record}
 use Rattle.log_format.specs.declared.record.Kind.TheVariants.{Read, Write, Update, Lock, Unlock, Barrier, Region, Chunk, End}
 use Rattle.sw_base.specs.declared.path.Step.{Step}
 use Rattle.race_model.specs.Trace.{logs_of}
-use Rattle.kernel_model.specs.State.{DivZero, Index, LogFull, Gives, Stops, put, event}
+use Rattle.kernel_model.specs.State.{Gives, Stops, put, event}
+use Rattle.kernel_model.specs.declared.stop.StopWhy.TheVariants.{DivZero, Index, LogFull}
 use Rattle.kernel_model.specs.Value.{value, read}
 use Rattle.kernel_model.specs.Iterations.{even_iterations}
 use Rattle.kernel_model.specs.Trace.{Start, TaskTrace, Ended, Stopped, Wanting, run, draw, draws, task, trace}

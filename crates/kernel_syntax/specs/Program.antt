@@ -23,7 +23,7 @@ term_of (Neg' _ e) = tree.Neg (term_of e)
 term_of (Binary' op line _ left _ right) = tree.Binary op line (term_of left) (term_of right)
 
 -- several statements followed by the rest, each given what follows it
-abbrev pub in_sequence : List (Code → Code) → Code → Code
+abbrev pub in_sequence : {X : Type 0} → List (X → X) → X → X
 in_sequence [] rest = rest
 in_sequence (first ∷ others) rest = first (in_sequence others rest)
 

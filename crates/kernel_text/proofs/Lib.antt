@@ -10,4 +10,4 @@ pub mod UnfoldingExprs
 pub mod UnfoldingOperators
 pub mod UnfoldingStmts
 pub mod Moving
-pub mod Judgement
+pub mod JudgingTokens

@@ -1,8 +1,8 @@
 -- Where the tokens of a text are no kernel, and where they nest too deep.
 use Rattle.std.specs.Prelude.{◌≡◌, ℕ, ◌+◌, ◌≤◌, List, [], ◌∷◌, ◌++◌, length, take, map, All}
 use Rattle.kernel_text.specs.declared.token.Token.{Token}
-use Rattle.kernel_text.specs.declared.judging.Verdict.{Verdict}
-use Rattle.kernel_text.specs.declared.judging.Verdict.TheVariants as verdict
+use Rattle.kernel_text.specs.declared.judging.Judgement.{Judgement}
+use Rattle.kernel_text.specs.declared.judging.Judgement.TheVariants as verdict
 use Rattle.kernel_text.specs.Grammar.{Tree, NumberAt, NameAt, TidAt, SpanAt, Element, Group, Minus, Binary, schedule_tokens, nowait_tokens, Stmts, NoMore, Let, Assign, Store, Update, If, IfElse, Loop, Parallel, For, Barrier, Critical, CriticalOf, declarations_tokens, KernelTree, kernel_tokens, IsKernel, IsShallow}
 
 -- for each token of an expression the level that it opens, or 0; so many levels are open around
@@ -82,7 +82,7 @@ pub record EndsEarly (ts : List Token) : Type 0 where
   pub unfinished : (k : KernelTree) → IsKernel k → kernel_tokens k ≡ ts → ⊥
 
 -- what a verdict on tokens says
-abbrev pub IsVerdict : List Token → Verdict → Type 0
+abbrev pub IsVerdict : List Token → Judgement → Type 0
 IsVerdict ts verdict.Kernel = (k : KernelTree) × IsKernel k × IsShallow k × (kernel_tokens k ≡ ts)
 IsVerdict ts (verdict.Syntax line) = (bad : Token) × IsSyntaxFault ts bad × (line ≡ bad.line)
 IsVerdict ts (verdict.Deep line) = (bad : Token) × IsTooDeep ts bad × (line ≡ bad.line)

@@ -161,6 +161,6 @@ tokens_of bytes =
     else Err (record { line = line_at bytes (utf8_valid_len bytes); why = why.NotUtf8 }))
 
 -- the fault is out of memory, or it is the one that the text has
-abbrev pub Tells : {X : Type 0} → TextFault → Result X Refusal → Type 0
-Tells fault.Memory due = Unit {0}
-Tells (fault.Refused line why) due = due ≡ Err (record { line = line; why = why })
+abbrev pub TellsRefusal : {X : Type 0} → TextFault → Result X Refusal → Type 0
+TellsRefusal fault.Memory due = Unit {0}
+TellsRefusal (fault.Refused line why) due = due ≡ Err (record { line = line; why = why })

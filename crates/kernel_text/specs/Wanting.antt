@@ -244,12 +244,12 @@ pub record Skips (w : Want) (s : List Want) (x : Lexeme) : Type 0 where
   pub empty : Fulfils (w ∷ []) [] []
   pub leaves : (line : ℕ) (ts : List Token) (ls : List ℕ) → Fulfils (w ∷ s) (token x line ∷ ts) ls → Fulfils s (token x line ∷ ts) ls
 
-abbrev pub Steps : {E : Type 0} → Result Moved E → Lexeme → List Want → List Want → Type 0
-Steps (Ok moved.Fails) x before after = Refuses before x
-Steps (Ok moved.Skips) x before after = ⊥
-Steps (Ok moved.Takes) x before after = (level : ℕ) × (level ≤ 32) × LeadsTo before x level after
-Steps (Ok moved.Deep) x before after = (level : ℕ) × (deeper : List Want) × (32 < level) × LeadsTo before x level deeper
-Steps (Err e) x before after = Unit {0}
+abbrev pub StepsTo : {E : Type 0} → Result Moved E → Lexeme → List Want → List Want → Type 0
+StepsTo (Ok moved.Fails) x before after = Refuses before x
+StepsTo (Ok moved.Skips) x before after = ⊥
+StepsTo (Ok moved.Takes) x before after = (level : ℕ) × (level ≤ 32) × LeadsTo before x level after
+StepsTo (Ok moved.Deep) x before after = (level : ℕ) × (deeper : List Want) × (32 < level) × LeadsTo before x level deeper
+StepsTo (Err e) x before after = Unit {0}
 
 -- a want before these, and what is wanted after the token
 abbrev pub MovesTo : Moved → Want → Lexeme → List Want → List Want → Type 0

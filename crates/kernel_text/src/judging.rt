@@ -5,7 +5,7 @@ ghost use Rattle.std.specs.Prelude.{◌≡◌, ◌++◌, ◌∷◌, [], IfOk, �
 ghost use Rattle.kernel_text.specs.declared.judging.Want.TheVariants as want;
 ghost use Rattle.kernel_text.specs.Grammar.{is_comparison};
 ghost use Rattle.kernel_text.specs.Faults.{IsVerdict};
-ghost use Rattle.kernel_text.specs.Wanting.{AreDelimited, Alone, Moves, Opens, Steps, stack_of};
+ghost use Rattle.kernel_text.specs.Wanting.{AreDelimited, Alone, Moves, Opens, StepsTo, stack_of};
 
 use crate::token::{Lexeme, Sign, Token, Word, operation};
 use kernel_syntax::Op;
@@ -60,7 +60,7 @@ pub enum Moved {
 
 /// What tokens are.
 #[derive(Clone, Copy)]
-pub enum Verdict {
+pub enum Judgement {
     /// A kernel of at most 32 levels.
     Kernel,
     /// The tokens up to the first in this line that no kernel goes on with are none.
@@ -489,7 +489,7 @@ fn move_one(stack: &mut Vec<Want>, want: Want, lexeme: &Lexeme) -> Result<Moved,
 /// A token where all of the stack is wanted in turn.
 fn step(stack: &mut Vec<Want>, lexeme: &Lexeme) -> Result<Moved, AllocError>
     requires { AreDelimited (stack_of stack.old.items) }
-    ensures { Steps result lexeme.now (stack_of stack.old.items) (stack_of stack.new.items) }
+    ensures { StepsTo result lexeme.now (stack_of stack.old.items) (stack_of stack.new.items) }
 {
     'wants: while let Some(want) = stack.pop() {
         match move_one(stack, want, lexeme)? {
@@ -505,7 +505,7 @@ fn step(stack: &mut Vec<Want>, lexeme: &Lexeme) -> Result<Moved, AllocError>
 /// What tokens are: a kernel by the grammar with at most 32 levels of blocks and in each
 /// expression; or they have a first token that no kernel goes on with, or a first that opens level
 /// 33, at this line; or they end before a kernel does.
-pub fn judge(alloc: Global, tokens: &[Token]) -> Result<Verdict, AllocError>
+pub fn judge(alloc: Global, tokens: &[Token]) -> Result<Judgement, AllocError>
     ensures { IfOk result (λ v. IsVerdict tokens.now v) }
 {
     let mut stack = Vec::new(alloc);
@@ -515,14 +515,14 @@ pub fn judge(alloc: Global, tokens: &[Token]) -> Result<Verdict, AllocError>
         let line = token.line;
         match step(&mut stack, &token.lexeme)? {
             Moved::Takes => rest = after,
-            Moved::Deep => return Ok(Verdict::Deep { line }),
-            Moved::Fails => return Ok(Verdict::Syntax { line }),
-            Moved::Skips => return Ok(Verdict::Syntax { line }),
+            Moved::Deep => return Ok(Judgement::Deep { line }),
+            Moved::Fails => return Ok(Judgement::Syntax { line }),
+            Moved::Skips => return Ok(Judgement::Syntax { line }),
         }
     }
     if stack.is_empty() {
-        Ok(Verdict::Kernel)
+        Ok(Judgement::Kernel)
     } else {
-        Ok(Verdict::Early)
+        Ok(Judgement::Early)
     }
 }

@@ -2,7 +2,7 @@
 ghost use Rattle.std.specs.Prelude.{◌≡◌, ◌+◌, ◌<◌, ◌≤◌, ◌↔◌, length, take, IsTrue, IsAscii, IfOk, IfErr, IfSome, Some, None, pos, option_map, slice_index, take_while, Ok};
 ghost use Rattle.std.specs.Char.{is_ascii_digit};
 ghost use Rattle.std.specs.List.{prefix_len, AllPass};
-ghost use Rattle.kernel_text.specs.Tokens.{not_line_feed, is_white, begins_name, is_in_name, word_of, two_byte_sign, one_byte_sign, number, line_at, lexeme_at, tokens_from, or_token, tokens_of, Tells, name_lexeme, number_lexeme, sign_lexeme};
+ghost use Rattle.kernel_text.specs.Tokens.{not_line_feed, is_white, begins_name, is_in_name, word_of, two_byte_sign, one_byte_sign, number, line_at, lexeme_at, tokens_from, or_token, tokens_of, TellsRefusal, name_lexeme, number_lexeme, sign_lexeme};
 
 use crate::fault::{KernelWhy, TextFault};
 use crate::token::{Lexeme, Sign, Token, Word};
@@ -188,7 +188,7 @@ fn lexeme_at(bytes: &[u8]) -> Option<(Lexeme, usize)>
 fn tokens_from(alloc: Global, bytes: &[u8]) -> Result<Vec<Token>, TextFault>
     requires { length bytes.now ≤ 65536 }
     ensures found { IfOk result (λ found. tokens_from 1 0 bytes.now ≡ Ok found.items) }
-    ensures fault { IfErr result (λ fault. Tells fault (or_token (tokens_from 1 0 bytes.now))) }
+    ensures fault { IfErr result (λ fault. TellsRefusal fault (or_token (tokens_from 1 0 bytes.now))) }
 {
     let mut found = Vec::new(alloc);
     let mut rest = bytes;
@@ -238,7 +238,7 @@ pub fn line_at(bytes: &[u8], index: usize) -> u32
 #[tactic(auto, unfolding(crate::specs::Tokens::tokens_of))]
 pub fn tokens(alloc: Global, text: &[u8]) -> Result<Vec<Token>, TextFault>
     ensures found { IfOk result (λ found. tokens_of text.now ≡ Ok found.items) }
-    ensures fault { IfErr result (λ fault. Tells fault (tokens_of text.now)) }
+    ensures fault { IfErr result (λ fault. TellsRefusal fault (tokens_of text.now)) }
 {
     if text.len() > MOST_BYTES {
         return Err(TextFault::Refused {

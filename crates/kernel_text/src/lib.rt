@@ -15,7 +15,7 @@ mod nesting;
 mod token;
 
 pub use crate::fault::{KernelWhy, TextFault};
-pub use crate::judging::{Verdict, judge};
+pub use crate::judging::{Judgement, judge};
 pub use crate::lexing::{line_at, tokens};
 pub use crate::nesting::levels_tell_the_depth;
 pub use crate::token::{Lexeme, Sign, Token, Word, operation};

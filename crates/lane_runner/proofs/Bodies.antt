@@ -1,5 +1,6 @@
 -- How a lane goes on: lists of statements, and the statements that have some.
 use Rattle.std.proofs.Common.{◌≡◌, ◌≢◌, refl, ap, ◌∙◌, subst, ℕ, suc, ◌+◌, ◌-◌, ◌<◌, List, [], ◌∷◌, ◌++◌, ℤ, pos, Result, Ok, Err, arith}
+use Rattle.log_format.specs.Limit.{record_limit}
 use Rattle.kernel_syntax.specs.declared.syntax.Stmt.{Stmt}
 use Rattle.kernel_syntax.specs.Program.{stmt_code, code_of}
 use Rattle.kernel_syntax.proofs.Equations.{stmts_code-append}
@@ -8,7 +9,7 @@ use Rattle.kernel_syntax.specs.Tree.{Term, Code}
 use Rattle.kernel_model.specs.State.{State, Outcome, and_then, after, state_of}
 use Rattle.kernel_model.specs.Growth.{Grows}
 use Rattle.kernel_model.specs.Iterations.{total_of}
-use Rattle.kernel_model.specs.Trace.{run, branch, turns, log_limit}
+use Rattle.kernel_model.specs.Trace.{run, branch, turns}
 use Rattle.kernel_model.specs.Value.{Site, value}
 use Rattle.kernel_model.specs.Effect.{Returned}
 use Rattle.kernel_model.proofs.Equations.{run-If, run-Loop}
@@ -87,7 +88,7 @@ module _ (w : WorldValue) (at : Site) (slots : List ℤ) (test : Term) (if_true 
 
 module _ (w : WorldValue) (at : Site) (body : Code) (slot : ℕ) (from : ℤ) where
   pub turns_none : (first : ℕ) (slots : List ℤ) (p : Progress) → CanGo w p → Made w (turns 0 first (turn_from at body slot from)) slots slots p p (Returned tt)
-  turns_none first slots p can = made_still w (turns 0 first (turn_from at body slot from)) slots p (Returned tt) can (makes-turns_none (turn_from at body slot from) slots (log_limit - p.buffer.count) first)
+  turns_none first slots p can = made_still w (turns 0 first (turn_from at body slot from)) slots p (Returned tt) can (makes-turns_none (turn_from at body slot from) slots (record_limit - p.buffer.count) first)
 
   module _ (first : ℕ) (slots mid_slots slots' : List ℤ) (i : ℕ) (old mid new : Progress) (before : Made w (turns i first (turn_from at body slot from)) slots mid_slots old mid (Returned tt)) where
     turns_more : (n : ℕ) (r : Result (Unit {0}) Halt) → Goes w (turns n (first + i) (turn_from at body slot from)) mid_slots slots' mid new r → Goes w (turns (i + n) first (turn_from at body slot from)) slots slots' old new r

@@ -1,9 +1,10 @@
 -- A chunk that is drawn: where it begins, and that it is executed.
 use Rattle.std.proofs.Common.{◌≡◌, refl, ℕ, ◌-◌, ◌*◌, min, true, false, List, ℤ, Ok, Err, nat_lt, arith}
+use Rattle.log_format.specs.Limit.{record_limit}
 use Rattle.kernel_syntax.specs.Tree.{Code}
 use Rattle.kernel_model.specs.State.{State, Outcome, Gives}
 use Rattle.kernel_model.specs.Iterations.{chunk_count}
-use Rattle.kernel_model.specs.Trace.{log_limit, draw, turns}
+use Rattle.kernel_model.specs.Trace.{draw, turns}
 use Rattle.kernel_model.specs.Value.{Site}
 use Rattle.kernel_model.specs.Effect.{Returned}
 use Rattle.kernel_model.proofs.Effects.{makes-stays}
@@ -34,7 +35,7 @@ module _ (w : WorldValue) (at : Site) (body : Code) (slot : ℕ) (from : ℤ) (l
         let past : nat_lt q n ≡ false = grind (arith, is) in
         goes_then w (draw line n) (λ q s. if_drawn q n chunks s) slots slots slots old mid mid q made (Ok false)
         (made_still w (if_drawn q n chunks) slots mid (Returned false) can
-        (makes-stays (if_drawn q n chunks) slots (log_limit - mid.buffer.count) (Returned false) (λ s same full. rw past refl)))
+        (makes-stays (if_drawn q n chunks) slots (record_limit - mid.buffer.count) (Returned false) (λ s same full. rw past refl)))
 
     module _ (less : nat_lt q n ≡ true) (slots' : List ℤ) (new : Progress) where
       drawn_is : (s : State) → if_drawn q n chunks s ≡ then_more (chunks q s)
@@ -55,4 +56,4 @@ module _ (w : WorldValue) (at : Site) (body : Code) (slot : ℕ) (from : ℤ) (l
           (goes_same w (λ s. then_more (chunks q s)) (if_drawn q n chunks) slots slots' mid new drawn_is (Ok true)
           (goes_then w (chunks q) (λ u s. Gives true s) slots slots' slots' mid new new tt
           (range_goes w at body slot from (q * chunk) (min chunk (total - q * chunk)) slots slots' mid new (Ok tt) goes) (Ok true)
-          (made_still w (λ s. Gives true s) slots' new (Returned true) can (makes-stays (λ s. Gives true s) slots' (log_limit - new.buffer.count) (Returned true) (λ s same full. refl)))))
+          (made_still w (λ s. Gives true s) slots' new (Returned true) can (makes-stays (λ s. Gives true s) slots' (record_limit - new.buffer.count) (Returned true) (λ s same full. refl)))))

@@ -1,8 +1,8 @@
 -- A loop whose chunks are drawn: one draw after another, until none is left.
 use Rattle.std.proofs.Common.{refl, ℕ, ◌-◌, true, false, List, ℤ, Result, Ok, Err}
+use Rattle.log_format.specs.Limit.{record_limit}
 use Rattle.kernel_model.specs.State.{State, Outcome, and_then, state_of}
 use Rattle.kernel_model.specs.Growth.{Grows}
-use Rattle.kernel_model.specs.Trace.{log_limit}
 use Rattle.kernel_model.proofs.Draining.{again, draw_all_is, again_grows}
 use Rattle.lane_runner.specs.declared.stop.Halt.{Halt}
 use Rattle.lane_runner.specs.World.{WorldValue}
@@ -29,7 +29,7 @@ module _ (line n : ℕ) (chunk : ℕ → State → Outcome (Unit {0})) (grows : 
     draws_end can made =
         in_loop (Ok tt) new slots'
         (goes_then w (draw_once line n chunk) (again line n chunk) mid_slots slots' slots' mid new new false made (Ok tt)
-        (made_still w (again line n chunk false) slots' new (Returned tt) can (makes-stays (again line n chunk false) slots' (log_limit - new.buffer.count) (Returned tt) (λ s same full. refl))))
+        (made_still w (again line n chunk false) slots' new (Returned tt) can (makes-stays (again line n chunk false) slots' (record_limit - new.buffer.count) (Returned tt) (λ s same full. refl))))
 
     pub draws_stop : (why : Halt) → Goes w (draw_once line n chunk) mid_slots slots' mid new (Err why) → Goes w (draw_all line n chunk) slots slots' old new (Err why)
     draws_stop why goes = in_loop (Err why) new slots' (goes_stop w (draw_once line n chunk) (again line n chunk) mid_slots slots' mid new why (again_grows line n chunk grows) goes)

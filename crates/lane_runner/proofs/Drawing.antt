@@ -1,9 +1,9 @@
 -- Draws one after another.
 use Rattle.std.proofs.Common.{◌≡◌, ap, sym, ◌∙◌, ℕ, suc, ◌+◌, ◌-◌, ◌≤◌, List, [], ◌∷◌, ◌++◌, length, None, arith, append_assoc}
 use Rattle.std.proofs.lemmas.List.{append-nil, length-append}
+use Rattle.log_format.specs.Limit.{record_limit}
 use Rattle.log_format.specs.declared.record.Record.{Record}
 use Rattle.kernel_model.specs.State.{number_drawn}
-use Rattle.kernel_model.specs.Trace.{log_limit}
 use Rattle.shared_words.specs.declared.share.Share.{Share}
 use Rattle.shared_words.specs.Handles.{HandValue}
 use Rattle.lane_runner.specs.Drawing.{Tally, TellDraws, after_draws, HasDrawn}
@@ -58,7 +58,7 @@ draws_have_records a b (r ∷ xs) ds (TellDraws.draw loop last number x records 
 draws_have_records a b (r ∷ xs) ds (TellDraws.closing loop last number x records drawn is at past t) = let less = draws_have_records (suc loop) b records drawn t in omega (arith, less)
 
 -- the hand may still draw as often as the log has room
-pub draws_left : (a b : Tally) (xs : List Record) (count now : ℕ) → HasDrawn a b xs → now ≡ count + length xs → log_limit ≤ a.draws.view.left + count → log_limit ≤ b.draws.view.left + now
+pub draws_left : (a b : Tally) (xs : List Record) (count now : ℕ) → HasDrawn a b xs → now ≡ count + length xs → record_limit ≤ a.draws.view.left + count → record_limit ≤ b.draws.view.left + now
 draws_left a b xs count now x is enough =
     let less = draws_have_records a.next_loop b.next_loop xs x.drawn x.tells in
     let left : b.draws.view.left ≡ a.draws.view.left - length x.drawn = ap (λ (h : HandValue Share). h.view.left) x.draws in

@@ -3,10 +3,11 @@ use Rattle.std.proofs.Common.{◌≡◌, refl, inr, ap, sym, ◌∙◌, subst, �
 use Rattle.std.specs.Prelude.{reverse}
 use Rattle.std.proofs.lemmas.List.{append-nil}
 use Rattle.std.proofs.lemmas.Bool.{cases_lt}
+use Rattle.log_format.specs.Limit.{record_limit}
 use Rattle.log_format.specs.declared.record.Record.{Record}
 use Rattle.log_format.specs.declared.record.Kind.TheVariants as kind
 use Rattle.kernel_model.specs.State.{State, event, state_of}
-use Rattle.kernel_model.specs.Trace.{log_limit, draw}
+use Rattle.kernel_model.specs.Trace.{draw}
 use Rattle.kernel_model.specs.Growth.{Grows}
 use Rattle.kernel_model.specs.Effect.{Returned, Makes, adds}
 use Rattle.kernel_model.proofs.Effects.{makes-draw}
@@ -93,7 +94,7 @@ module _ (w : WorldValue) (line n number : ℕ) (some : 1 ≤ line) (old mid new
     makes =
         let below = room.may_put.below in
         let same = room.waits.count in
-        subst (λ (rs : List Record). Makes (draw line n) slots (log_limit - old.buffer.count) (adds slots rs) (Returned (min number n))) (sym (put_one told some))
-        (makes-draw line n slots (log_limit - old.buffer.count) (min number n) (omega (arith, below, same)) (omega arith));
+        subst (λ (rs : List Record). Makes (draw line n) slots (record_limit - old.buffer.count) (adds slots rs) (Returned (min number n))) (sym (put_one told some))
+        (makes-draw line n slots (record_limit - old.buffer.count) (min number n) (omega (arith, below, same)) (omega arith));
     regions = λ program is. RunsRegions.no_region;
   }

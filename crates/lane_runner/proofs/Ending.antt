@@ -8,7 +8,7 @@ use Rattle.kernel_syntax.specs.declared.syntax.Array.{Array}
 use Rattle.kernel_model.specs.State as model
 use Rattle.history_model.specs.Work.{Work, Fork, RegionWork, work_regions, then_work}
 use Rattle.history_model.specs.Joined.{PhasesEnd, ArePhasesJoined}
-use Rattle.lane_runner.specs.Handed.{AreFew, place_of}
+use Rattle.lane_runner.specs.Handed.{AreFew, log_place}
 use Rattle.lane_runner.specs.Stopping.{HaveEnded, StopsRegion, StopsAtLast}
 use Rattle.lane_runner.specs.declared.stop.Stop.{Stop}
 use Rattle.lane_runner.specs.Going.{Progress, Cause, AtLog, AtRegion, AtTasks, AreFewBefore, StopsBy}
@@ -38,7 +38,7 @@ stops_both arrays at number path why earlier forks xs ys x y = record {
 pub ended_then : (work other : Work) → HaveEnded (work_regions work) → HaveEnded (work_regions other) → HaveEnded (work_regions (then_work work other))
 ended_then work other x y = subst (λ (rs : List RegionWork). HaveEnded rs) (sym (then_regions work other)) (ended_both (work_regions work) (work_regions other) x y)
 
-pub stops_then : (arrays : List Array) (old mid new : Progress) (cause : Cause) (earlier forks : List model.Fork) (work other : Work) → place_of mid.buffer ≡ place_of old.buffer → mid.buffer.path ≡ old.buffer.path → mid.tally.forked ≡ old.tally.forked + length (work_regions work)
+pub stops_then : (arrays : List Array) (old mid new : Progress) (cause : Cause) (earlier forks : List model.Fork) (work other : Work) → log_place mid.buffer ≡ log_place old.buffer → mid.buffer.path ≡ old.buffer.path → mid.tally.forked ≡ old.tally.forked + length (work_regions work)
     → HaveEnded (work_regions work) → (AreFew old.done → AreFew mid.done) → StopsBy arrays mid new cause forks (work_regions other) → StopsBy arrays old new cause (earlier ++ forks) (work_regions (then_work work other))
 stops_then arrays old mid new AtLog earlier forks work other place path forked x few y = (ended_then work other x y.0, λ less. y.1 (few less))
 stops_then arrays old mid new (AtTasks line) earlier forks work other place path forked x few y = (

@@ -20,8 +20,8 @@ use Rattle.lane_runner.specs.declared.stop.Halt.{Halt}
 use Rattle.lane_runner.specs.Forking.{Answer, IsReady}
 use Rattle.lane_runner.specs.Going.{Progress, CanGo, GoesPast, IsSameLog, TakesOrHalts, site}
 use Rattle.lane_runner.specs.Handed.{MaybeStop}
-use Rattle.lane_runner.specs.Lane.{CanGoOn, Executed, LaneValue, PutsEnd, answer_of, halt_of, noted, progress}
-use Rattle.lane_runner.specs.Teams.{EachTeamIn, MayFork}
+use Rattle.lane_runner.specs.Lane.{CanGoOn, Executed, LaneValue, PutsEnd, answer_due, halt_of, noted, progress}
+use Rattle.lane_runner.specs.Teams.{EachTeamIn, MayForkTeam}
 use Rattle.lane_runner.specs.World.{WorldValue}
 use Rattle.lane_runner.proofs.Halting.{IsApart, goes_apart, noted_tells, takes_apart}
 
@@ -32,7 +32,7 @@ module _ (w : WorldValue) (items : List Item) (path : List Step) (slots slots' :
   abbrev Went : Result (Unit {0}) Halt → Type 0
   Went r = GoesPast (bar_count (map part_of items)) w (run_parts (site w) (map part_of items)) slots slots' at after r
 
-  with_answer : (r : Result (Unit {0}) Halt) (stopped before : MaybeStop) → r ≡ answer_of (halt_of path stopped) → Went r → IsSameLog at.buffer after.buffer
+  with_answer : (r : Result (Unit {0}) Halt) (stopped before : MaybeStop) → r ≡ answer_due (halt_of path stopped) → Went r → IsSameLog at.buffer after.buffer
       → IfOk r (λ _. after.tally.next_loop ≡ at.tally.next_loop + drawn_count (map part_of items)) → IsReady after.hand w.words → OnOk r (CanGo w after)
       → Executed w items (lane_with path slots at before) (lane_with path slots' after stopped)
   with_answer r stopped before is goes log loops ready can = record {
@@ -44,8 +44,8 @@ module _ (w : WorldValue) (items : List Item) (path : List Step) (slots slots' :
     can = λ none. can_of (subst (λ (x : Result (Unit {0}) Halt). OnOk x (CanGo w after)) (is ∙ went none) can);
   }
     where
-      went : stopped ≡ None → answer_of (halt_of path stopped) ≡ answer_of None
-      went none = ap (λ (s : MaybeStop). answer_of (halt_of path s)) none
+      went : stopped ≡ None → answer_due (halt_of path stopped) ≡ answer_due None
+      went none = ap (λ (s : MaybeStop). answer_due (halt_of path s)) none
 
       loops_of : after.tally.next_loop ≡ at.tally.next_loop + drawn_count (map part_of items) → after.tally.next_loop ≡ at.tally.next_loop + drawn_count (map part_of items)
       loops_of x = x
@@ -84,5 +84,5 @@ puts_end line old inside new same after r is takes log =
 -- what is asked for the regions of a phase, told of the same log
 pub forks_same : {T : Type 0} (w : WorldValue) (accepts : MutBor (HandValue View) → Bor Locals → ℕ → Vec T → Bor Team → MutBor (Vec (ClosedLog T)) → Type 0)
     (gives : MutBor (HandValue View) → Bor Locals → ℕ → Vec T → Bor Team → MutBor (Vec (ClosedLog T)) → Answer → MutBor (HandValue View) → MutBor (Vec (ClosedLog T)) → Type 0)
-    (seen : Ghosts T) (b b' : Buffered) (items : List Item) → b' ≡ b → All (EachTeamIn (MayFork w accepts gives seen b)) items → All (EachTeamIn (MayFork w accepts gives seen b')) items
-forks_same w accepts gives seen b b' items same all = subst (λ (x : Buffered). All (EachTeamIn (MayFork w accepts gives seen x)) items) (sym same) all
+    (seen : Ghosts T) (b b' : Buffered) (items : List Item) → b' ≡ b → All (EachTeamIn (MayForkTeam w accepts gives seen b)) items → All (EachTeamIn (MayForkTeam w accepts gives seen b')) items
+forks_same w accepts gives seen b b' items same all = subst (λ (x : Buffered). All (EachTeamIn (MayForkTeam w accepts gives seen x)) items) (sym same) all

@@ -1,13 +1,15 @@
 -- How a lane goes on: parts one after another.
 use Rattle.std.proofs.Common.{◌≡◌, refl, ap, sym, subst, ℕ, ◌-◌, List, ◌++◌, length, ℤ, None, Result, Ok, Err, arith}
+use Rattle.log_format.specs.Limit.{record_limit}
 use Rattle.log_format.specs.declared.record.Record.{Record}
-use Rattle.kernel_model.specs.State as model
+use Rattle.kernel_model.specs.declared.stop.StopWhy.{StopWhy}
+use Rattle.kernel_model.specs.declared.stop.StopWhy.TheVariants as reason
 use Rattle.kernel_model.specs.State.{State, Fork, Outcome, and_then, after, state_of}
 use Rattle.kernel_model.specs.Growth.{Grows}
-use Rattle.kernel_model.specs.Trace.{log_limit}
 use Rattle.kernel_model.specs.Effect.{Effect, Finish, Returned, Halted, Makes, then_effect}
 use Rattle.kernel_model.proofs.Effects.{makes-then, makes-halt, makes-same}
 use Rattle.history_model.specs.Work.{Work, then_work}
+use Rattle.lane_runner.specs.declared.stop.Stop.TheVariants as stop
 use Rattle.lane_runner.specs.declared.stop.Halt.{Halt}
 use Rattle.lane_runner.specs.declared.stop.Halt.TheVariants as halt
 use Rattle.lane_runner.specs.Handed.{MaybeStop}
@@ -26,7 +28,7 @@ effect_then one two slots slots' forks later = λ i. record { slots = slots'; ad
 
 module _ (w : WorldValue) {A B : Type 0} (part : State → Outcome A) (next : A → State → Outcome B) (slots slots' : List ℤ) (old new : Progress) where
   -- a part that stops, whatever follows it
-  halts : (why : model.Stop) (line : ℕ) → Made w part slots slots' old new (Halted why line) → Made w (λ s. and_then (part s) next) slots slots' old new (Halted why line)
+  halts : (why : StopWhy) (line : ℕ) → Made w part slots slots' old new (Halted why line) → Made w (λ s. and_then (part s) next) slots slots' old new (Halted why line)
   halts why line m = record {
     work = m.work;
     forks = m.forks;
@@ -38,7 +40,7 @@ module _ (w : WorldValue) {A B : Type 0} (part : State → Outcome A) (next : A 
     handed = m.handed;
     few = m.few;
     unrefused = m.unrefused;
-    makes = makes-halt part next slots (log_limit - old.buffer.count) (effect_of slots' m.work m.forks) why line m.makes;
+    makes = makes-halt part next slots (record_limit - old.buffer.count) (effect_of slots' m.work m.forks) why line m.makes;
     regions = m.regions;
   }
 
@@ -52,22 +54,22 @@ module _ (w : WorldValue) {A B : Type 0} (part : State → Outcome A) (next : A 
     ends = m.ends;
     stops = m.stops;
     handed = m.handed;
-    begins = begins_first part next slots (log_limit - old.buffer.count) (log_of m.work) m.forks grows m.begins;
+    begins = begins_first part next slots (record_limit - old.buffer.count) (log_of m.work) m.forks grows m.begins;
     regions = m.regions;
   }
 
   pub goes_stop : (why : Halt) → ((a : A) (s : State) → Grows s (state_of (next a s))) → Goes w part slots slots' old new (Err why) → Goes w (λ s. and_then (part s) next) slots slots' old new (Err why)
-  goes_stop (halt.DivZero line) grows m = halts model.DivZero line m
-  goes_stop (halt.Index line) grows m = halts model.Index line m
-  goes_stop (halt.LogFull line) grows m = halts model.LogFull line m
+  goes_stop (halt.Own (stop.DivZero line)) grows m = halts reason.DivZero line m
+  goes_stop (halt.Own (stop.Index line)) grows m = halts reason.Index line m
+  goes_stop (halt.Own (stop.LogFull line)) grows m = halts reason.LogFull line m
   goes_stop (halt.Region path why) grows m = begins_stop (AtRegion path why) grows m
-  goes_stop (halt.Tasks line) grows m = begins_stop (AtTasks line) grows m
-  goes_stop (halt.Trouble trouble) grows (m, refused) = (begins_stop AtLog grows m, refused)
+  goes_stop (halt.Own (stop.Tasks line)) grows m = begins_stop (AtTasks line) grows m
+  goes_stop (halt.Own (stop.Trouble trouble)) grows (m, refused) = (begins_stop AtLog grows m, refused)
 
 -- a part, and what follows it
 module _ (w : WorldValue) {A B : Type 0} (part : State → Outcome A) (next : A → State → Outcome B) (slots mid_slots slots' : List ℤ) (old mid new : Progress) (a : A)
     (one : Made w part slots mid_slots old mid (Returned a)) where
-  left : log_limit - mid.buffer.count ≡ log_limit - old.buffer.count - length (log_of one.work)
+  left : record_limit - mid.buffer.count ≡ record_limit - old.buffer.count - length (log_of one.work)
   left = let count = one.done.log.count in omega arith
 
   done : {bars : ℕ} (work : Work) → HasDonePast bars w mid new work → HasDonePast bars w old new (then_work one.work work)
@@ -99,8 +101,8 @@ module _ (w : WorldValue) {A B : Type 0} (part : State → Outcome A) (next : A 
       few = λ less. m.few (one.few less);
       unrefused = m.unrefused;
       makes =
-          subst (λ (e : Effect). Makes (λ s. and_then (part s) next) slots (log_limit - old.buffer.count) e finish) (effect_then one.work m.work mid_slots slots' one.forks m.forks)
-          (makes-then part next slots (log_limit - old.buffer.count) (effect_of mid_slots one.work one.forks) a (effect_of slots' m.work m.forks) finish one.makes
+          subst (λ (e : Effect). Makes (λ s. and_then (part s) next) slots (record_limit - old.buffer.count) e finish) (effect_then one.work m.work mid_slots slots' one.forks m.forks)
+          (makes-then part next slots (record_limit - old.buffer.count) (effect_of mid_slots one.work one.forks) a (effect_of slots' m.work m.forks) finish one.makes
           (subst (λ (room : ℕ). Makes (next a) mid_slots room (effect_of slots' m.work m.forks) finish) left m.makes));
       regions = λ program is. runs_then program one.forks m.forks one.work m.work (one.regions program is) (m.regions program is);
     },
@@ -121,20 +123,20 @@ module _ (w : WorldValue) {A B : Type 0} (part : State → Outcome A) (next : A 
     stops = stops_then w.arrays old mid new cause one.forks m.forks one.work m.work one.done.log.place one.done.log.path one.done.forked one.ended one.few m.stops;
     handed = handed (stop_by cause) m.work m.handed;
     begins =
-        subst (λ (rs : List Record). BeginsPart (λ s. and_then (part s) next) slots (log_limit - old.buffer.count) rs (one.forks ++ m.forks)) (sym (log_then one.work m.work))
-        (begins_then part next slots (log_limit - old.buffer.count) (effect_of mid_slots one.work one.forks) a (log_of m.work) m.forks one.makes
+        subst (λ (rs : List Record). BeginsPart (λ s. and_then (part s) next) slots (record_limit - old.buffer.count) rs (one.forks ++ m.forks)) (sym (log_then one.work m.work))
+        (begins_then part next slots (record_limit - old.buffer.count) (effect_of mid_slots one.work one.forks) a (log_of m.work) m.forks one.makes
         (subst (λ (room : ℕ). BeginsPart (next a) mid_slots room (log_of m.work) m.forks) left m.begins));
     regions = λ program is. runs_then program one.forks m.forks one.work m.work (one.regions program is) (m.regions program is);
   }
 
   pub past_then : (bars : ℕ) (r : Result B Halt) → GoesPast bars w (next a) mid_slots slots' mid new r → GoesPast bars w (λ s. and_then (part s) next) slots slots' old new r
   past_then bars (Ok b) m = follows (Returned b) m
-  past_then bars (Err (halt.DivZero line)) m = follows (Halted model.DivZero line) m
-  past_then bars (Err (halt.Index line)) m = follows (Halted model.Index line) m
-  past_then bars (Err (halt.LogFull line)) m = follows (Halted model.LogFull line) m
+  past_then bars (Err (halt.Own (stop.DivZero line))) m = follows (Halted reason.DivZero line) m
+  past_then bars (Err (halt.Own (stop.Index line))) m = follows (Halted reason.Index line) m
+  past_then bars (Err (halt.Own (stop.LogFull line))) m = follows (Halted reason.LogFull line) m
   past_then bars (Err (halt.Region path why)) m = begins_follow (AtRegion path why) m
-  past_then bars (Err (halt.Tasks line)) m = begins_follow (AtTasks line) m
-  past_then bars (Err (halt.Trouble trouble)) (m, refused) = (begins_follow AtLog m, refused)
+  past_then bars (Err (halt.Own (stop.Tasks line))) m = begins_follow (AtTasks line) m
+  past_then bars (Err (halt.Own (stop.Trouble trouble))) (m, refused) = (begins_follow AtLog m, refused)
 
   pub goes_then : (r : Result B Halt) → Goes w (next a) mid_slots slots' mid new r → Goes w (λ s. and_then (part s) next) slots slots' old new r
   goes_then r goes = past_then 0 r goes
@@ -154,7 +156,7 @@ module _ (w : WorldValue) {A : Type 0} (part other : State → Outcome A) (slots
       handed = m.handed;
       few = m.few;
       unrefused = m.unrefused;
-      makes = makes-same part other slots (log_limit - old.buffer.count) (effect_of slots' m.work m.forks) finish same m.makes;
+      makes = makes-same part other slots (record_limit - old.buffer.count) (effect_of slots' m.work m.forks) finish same m.makes;
       regions = m.regions;
     },
     refl,
@@ -173,18 +175,18 @@ module _ (w : WorldValue) {A : Type 0} (part other : State → Outcome A) (slots
     ends = m.ends;
     stops = m.stops;
     handed = m.handed;
-    begins = begins_same part other slots (log_limit - old.buffer.count) (log_of m.work) m.forks same m.begins;
+    begins = begins_same part other slots (record_limit - old.buffer.count) (log_of m.work) m.forks same m.begins;
     regions = m.regions;
   }
 
   pub past_same : (bars : ℕ) (r : Result A Halt) → GoesPast bars w part slots slots' old new r → GoesPast bars w other slots slots' old new r
   past_same bars (Ok v) m = made_same (Returned v) m
-  past_same bars (Err (halt.DivZero line)) m = made_same (Halted model.DivZero line) m
-  past_same bars (Err (halt.Index line)) m = made_same (Halted model.Index line) m
-  past_same bars (Err (halt.LogFull line)) m = made_same (Halted model.LogFull line) m
+  past_same bars (Err (halt.Own (stop.DivZero line))) m = made_same (Halted reason.DivZero line) m
+  past_same bars (Err (halt.Own (stop.Index line))) m = made_same (Halted reason.Index line) m
+  past_same bars (Err (halt.Own (stop.LogFull line))) m = made_same (Halted reason.LogFull line) m
   past_same bars (Err (halt.Region path why)) m = begun_same (AtRegion path why) m
-  past_same bars (Err (halt.Tasks line)) m = begun_same (AtTasks line) m
-  past_same bars (Err (halt.Trouble trouble)) (m, refused) = (begun_same AtLog m, refused)
+  past_same bars (Err (halt.Own (stop.Tasks line))) m = begun_same (AtTasks line) m
+  past_same bars (Err (halt.Own (stop.Trouble trouble))) (m, refused) = (begun_same AtLog m, refused)
 
   pub goes_same : (r : Result A Halt) → Goes w part slots slots' old new r → Goes w other slots slots' old new r
   goes_same r goes = past_same 0 r goes

@@ -19,7 +19,7 @@ use Rattle.lane_runner.specs.declared.stop.Stop.{Stop}
 use Rattle.lane_runner.specs.declared.stop.Stop.TheVariants as stop
 use Rattle.lane_runner.specs.Going.{Progress, GoesPast, TakesOrHalts}
 use Rattle.lane_runner.specs.Handed.{MaybeStop}
-use Rattle.lane_runner.specs.Lane.{LaneValue, answer_of, halt_in, halt_of, noted, own_halt}
+use Rattle.lane_runner.specs.Lane.{LaneValue, answer_due, halt_in, halt_of, noted}
 use Rattle.lane_runner.specs.World.{WorldValue}
 
 -- where a region of the lane at this path stopped, it wasn't the lane itself that did
@@ -55,37 +55,25 @@ longer path below at step is same =
 
 -- ---- what is noted tells what was answered
 
-own_noted : (path : List Step) (why : Stop) → halt_of path (Some (path, why)) ≡ Some (own_halt why)
-own_noted path why = ap (λ (b : Bool). Some (if b then own_halt why else halt.Region path why)) (same_path path)
+own_noted : (path : List Step) (why : Stop) → halt_of path (Some (path, why)) ≡ Some (halt.Own why)
+own_noted path why = ap (λ (b : Bool). Some (if b then halt.Own why else halt.Region path why)) (same_path path)
 
-pub noted_tells : (path : List Step) (r : Result (Unit {0}) Halt) → IsApart path r → answer_of (halt_of path (noted path r)) ≡ r
+pub noted_tells : (path : List Step) (r : Result (Unit {0}) Halt) → IsApart path r → answer_due (halt_of path (noted path r)) ≡ r
 noted_tells path (Ok u) apart = refl
-noted_tells path (Err (halt.DivZero line)) apart = ap answer_of (own_noted path (stop.DivZero line))
-noted_tells path (Err (halt.Index line)) apart = ap answer_of (own_noted path (stop.Index line))
-noted_tells path (Err (halt.LogFull line)) apart = ap answer_of (own_noted path (stop.LogFull line))
-noted_tells path (Err (halt.Region at why)) apart = ap (λ (b : Bool). Err (if b then own_halt why else halt.Region at why)) (other_path at path apart)
-noted_tells path (Err (halt.Tasks line)) apart = ap answer_of (own_noted path (stop.Tasks line))
-noted_tells path (Err (halt.Trouble trouble)) apart = ap answer_of (own_noted path (stop.Trouble trouble))
+noted_tells path (Err (halt.Own why)) apart = ap answer_due (own_noted path why)
+noted_tells path (Err (halt.Region at why)) apart = ap (λ (b : Bool). Err (if b then halt.Own why else halt.Region at why)) (other_path at path apart)
 
 -- who executed a part, or put a record, wasn't in its own region
 pub goes_apart : (bars : ℕ) (w : WorldValue) (part : State → Outcome (Unit {0})) (slots slots' : List ℤ) (old new : Progress) (r : Result (Unit {0}) Halt) → GoesPast bars w part slots slots' old new r → IsApart old.buffer.path r
 goes_apart bars w part slots slots' old new (Ok u) goes = tt
-goes_apart bars w part slots slots' old new (Err (halt.DivZero line)) goes = tt
-goes_apart bars w part slots slots' old new (Err (halt.Index line)) goes = tt
-goes_apart bars w part slots slots' old new (Err (halt.LogFull line)) goes = tt
+goes_apart bars w part slots slots' old new (Err (halt.Own why)) goes = tt
 goes_apart bars w part slots slots' old new (Err (halt.Region at why)) goes =
     let inside = goes.stops.0.stopped.inside in longer old.buffer.path inside.below at _ inside.path_is
-goes_apart bars w part slots slots' old new (Err (halt.Tasks line)) goes = tt
-goes_apart bars w part slots slots' old new (Err (halt.Trouble trouble)) goes = tt
 
 pub takes_apart : (event : Record) (after : View) (old new : Progress) (path : List Step) (r : Result (Unit {0}) Halt) → TakesOrHalts event after old new r → IsApart path r
 takes_apart event after old new path (Ok u) takes = tt
-takes_apart event after old new path (Err (halt.DivZero line)) takes = tt
-takes_apart event after old new path (Err (halt.Index line)) takes = tt
-takes_apart event after old new path (Err (halt.LogFull line)) takes = tt
+takes_apart event after old new path (Err (halt.Own why)) takes = tt
 takes_apart event after old new path (Err (halt.Region at why)) takes = absurd takes
-takes_apart event after old new path (Err (halt.Tasks line)) takes = tt
-takes_apart event after old new path (Err (halt.Trouble trouble)) takes = tt
 
 -- ---- a lane that goes on
 

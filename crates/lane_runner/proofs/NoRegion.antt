@@ -22,7 +22,7 @@ use Rattle.execution_model.specs.Runs.{RunsTask, RunsRegions, lane_begin, region
 use Rattle.lane_runner.specs.declared.stop.Stop.{Stop}
 use Rattle.lane_runner.specs.declared.stop.Stop.TheVariants as stop
 use Rattle.lane_runner.specs.Forking.{Answer, EndsAs, RanRegion, stop_in}
-use Rattle.lane_runner.specs.Handed.{Entry, LogPlace, MaybeStop, IsForMemory, HandsOn, TaskHands, RegionsHand, LanesHand, place_of}
+use Rattle.lane_runner.specs.Handed.{HandedEntry, LogPlace, MaybeStop, IsForMemory, HandsOn, TaskHands, RegionsHand, LanesHand, log_place}
 use Rattle.lane_runner.specs.Stopping.{IsInRegion}
 use Rattle.lane_runner.specs.World.{WorldValue}
 use Rattle.lane_runner.proofs.Working.{hand_still, view_same}
@@ -63,9 +63,9 @@ lanes_none place stopped path number region none empty lane (suc left) =
     (TaskHands.missing (lane_of path number lane region.span) [] [] none (RegionsHand.no_region (lane_of path number lane region.span) 0)))
     (lanes_none place stopped path number region none empty (suc lane) left)
 
-module _ (w : WorldValue) (team : TeamTree) (slots : List ℤ) (task : Buffered) (number : ℕ) (hand : HandValue View) (before later : List Entry) (there : hand.there ≡ true) where
+module _ (w : WorldValue) (team : TeamTree) (slots : List ℤ) (task : Buffered) (number : ℕ) (hand : HandValue View) (before later : List HandedEntry) (there : hand.there ≡ true) where
   -- its logs and its answer are all that is to be told
-  pub nothing_ran : (r : Answer) → EndsAs w.arrays task.path number (record { team = team; slots = slots }) NoPhase r → HandsOn (place_of task) (stop_in r) task.path number (record { span = team.span; phases = NoPhase } ∷ []) before later
+  pub nothing_ran : (r : Answer) → EndsAs w.arrays task.path number (record { team = team; slots = slots }) NoPhase r → HandsOn (log_place task) (stop_in r) task.path number (record { span = team.span; phases = NoPhase } ∷ []) before later
       → RanRegion w team slots task number hand hand before later r
   nothing_ran r ends handed = record {
     phases = NoPhase;
@@ -89,7 +89,7 @@ module _ (w : WorldValue) (team : TeamTree) (slots : List ℤ) (task : Buffered)
         grows = kept ∙ sym (append-nil before);
         hands =
             RegionsHand.region task.path number (record { span = team.span; phases = NoPhase }) [] [] []
-            (lanes_none (place_of task) (Some (path, stop.Trouble trouble.Memory)) task.path number (record { span = team.span; phases = NoPhase }) refl refl 0 team.span) (RegionsHand.no_region task.path (number + 1));
+            (lanes_none (log_place task) (Some (path, stop.Trouble trouble.Memory)) task.path number (record { span = team.span; phases = NoPhase }) refl refl 0 team.span) (RegionsHand.no_region task.path (number + 1));
         tell = record { failed = λ p told. absurd (other_trouble _ _ (same_Some _ _ told) refl refl); crowded = λ p line told. absurd (other_stop _ _ line (same_Some _ _ told) refl refl) };
       })
     where

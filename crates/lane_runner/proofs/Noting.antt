@@ -2,10 +2,10 @@
 use Rattle.std.proofs.Common.{◌≡◌, refl, inr, ap, sym, ◌∙◌, subst, ℕ, ◌-◌, ◌≤◌, false, List, [], ◌∷◌, ℤ, None, Result, Ok, Err, arith}
 use Rattle.std.specs.Prelude.{OnOk, reverse}
 use Rattle.std.proofs.lemmas.List.{append-nil}
+use Rattle.log_format.specs.Limit.{record_limit}
 use Rattle.log_format.specs.declared.record.Record.{Record}
 use Rattle.log_format.specs.declared.record.Kind.TheVariants as kind
 use Rattle.kernel_model.specs.State.{State, Outcome, put, event, state_of, number_drawn, value_read}
-use Rattle.kernel_model.specs.Trace.{log_limit}
 use Rattle.kernel_model.specs.Growth.{Grows}
 use Rattle.kernel_model.specs.Effect.{Returned, Makes, adds}
 use Rattle.kernel_model.proofs.Effects.{makes-put, makes-put_full}
@@ -18,12 +18,13 @@ use Rattle.history_model.specs.Work.{Rest, Put, logged}
 use Rattle.history_model.specs.Did.{deeds_of}
 use Rattle.history_model.specs.Sound.{IsSoundRecord}
 use Rattle.execution_model.specs.Runs.{RunsRegions}
+use Rattle.lane_runner.specs.declared.stop.Stop.TheVariants as stop
 use Rattle.lane_runner.specs.declared.stop.Halt.{Halt}
 use Rattle.lane_runner.specs.declared.stop.Halt.TheVariants as halt
 use Rattle.lane_runner.specs.Drawing.{Tally, HasDrawn}
 use Rattle.execution_model.specs.Elements.{element_word, layout_of}
 use Rattle.lane_runner.specs.World.{WorldValue}
-use Rattle.lane_runner.specs.Going.{Progress, CanGo, GainsRecords, HasDonePast, MadePast, GoesPast, Takes, TakesOrHalts, log_of}
+use Rattle.lane_runner.specs.Going.{Progress, CanGo, GainsRecords, HasDonePast, MadePast, GoesPast, PutsRecord, TakesOrHalts, log_of}
 use Rattle.lane_runner.proofs.Drawing.{drew_nothing}
 use Rattle.lane_runner.proofs.Working.{no_access, worked_put_nothing}
 use Rattle.lane_runner.proofs.Stepping.{put_one, put_same, goes_unready}
@@ -34,12 +35,12 @@ use Rattle.lane_runner.proofs.Handing.{work_hands_none, few_still}
 -- who doesn't go on passed no barrier
 pub past_stop : {A : Type 0} (bars other : ℕ) (w : WorldValue) (part : State → Outcome A) (slots slots' : List ℤ) (old new : Progress) (why : Halt)
     → GoesPast bars w part slots slots' old new (Err why) → GoesPast other w part slots slots' old new (Err why)
-past_stop bars other w part slots slots' old new (halt.DivZero line) goes = goes
-past_stop bars other w part slots slots' old new (halt.Index line) goes = goes
-past_stop bars other w part slots slots' old new (halt.LogFull line) goes = goes
+past_stop bars other w part slots slots' old new (halt.Own (stop.DivZero line)) goes = goes
+past_stop bars other w part slots slots' old new (halt.Own (stop.Index line)) goes = goes
+past_stop bars other w part slots slots' old new (halt.Own (stop.LogFull line)) goes = goes
 past_stop bars other w part slots slots' old new (halt.Region path why) goes = goes
-past_stop bars other w part slots slots' old new (halt.Tasks line) goes = goes
-past_stop bars other w part slots slots' old new (halt.Trouble trouble) goes = goes
+past_stop bars other w part slots slots' old new (halt.Own (stop.Tasks line)) goes = goes
+past_stop bars other w part slots slots' old new (halt.Own (stop.Trouble trouble)) goes = goes
 
 -- such a record, which is that of so many barriers
 pub record IsNote (w : WorldValue) (event : Record) (bars : ℕ) : Type 0 where
@@ -90,7 +91,7 @@ note_grows r s plain = kept-put Grows grows-plain r s (λ room is. record {
 })
 
 module _ (w : WorldValue) (event : Record) (bars : ℕ) (note : IsNote w event bars) (slots : List ℤ) (old new : Progress) where
-  note_done : Takes event old.hand.view old new → HasDonePast bars w old new (Put event Rest)
+  note_done : PutsRecord event old.hand.view old new → HasDonePast bars w old new (Put event Rest)
   note_done taken = record {
     hand = taken.hand ∙ ap (λ v. with_view old.hand v) (worked_put_nothing (element_word w.arrays) old.hand.view event note.deeds);
     log = subst (λ (rs : List Record). GainsRecords old.buffer new.buffer rs) (sym (put_same event note.some note.same)) taken.log;
@@ -102,7 +103,7 @@ module _ (w : WorldValue) (event : Record) (bars : ℕ) (note : IsNote w event b
     barriers = note.count;
   }
 
-  pub note_made : Takes event old.hand.view old new → (m : MadePast bars w (put event) slots slots old new (Returned tt)) × (m.work ≡ Put event Rest)
+  pub note_made : PutsRecord event old.hand.view old new → (m : MadePast bars w (put event) slots slots old new (Returned tt)) × (m.work ≡ Put event Rest)
   note_made taken = (
     record {
       work = Put event Rest;
@@ -120,8 +121,8 @@ module _ (w : WorldValue) (event : Record) (bars : ℕ) (note : IsNote w event b
       few = few_still old.done new.done taken.done;
       unrefused = taken.unrefused;
       makes =
-          subst (λ (rs : List Record). Makes (put event) slots (log_limit - old.buffer.count) (adds slots rs) (Returned tt)) (sym (put_same event note.some note.same))
-          (makes-put event slots (log_limit - old.buffer.count) (let below = taken.below in omega arith) note.unread note.undrawn);
+          subst (λ (rs : List Record). Makes (put event) slots (record_limit - old.buffer.count) (adds slots rs) (Returned tt)) (sym (put_same event note.some note.same))
+          (makes-put event slots (record_limit - old.buffer.count) (let below = taken.below in omega arith) note.unread note.undrawn);
       regions = λ program is. RunsRegions.no_region;
     },
     refl,

@@ -19,7 +19,7 @@ use Rattle.lane_runner.specs.Alone.{IsAlone}
 use Rattle.lane_runner.specs.Executing.{MayExecute}
 use Rattle.lane_runner.specs.Forking.{Answer}
 use Rattle.lane_runner.specs.Going.{IsSameLog, Made, Progress}
-use Rattle.lane_runner.specs.Teams.{MayFork}
+use Rattle.lane_runner.specs.Teams.{MayForkTeam}
 use Rattle.lane_runner.specs.World.{WorldValue}
 use Rattle.lane_runner.proofs.Parting.{alone_at, teams_at}
 use Rattle.lane_runner.proofs.Teams.{teams_later}
@@ -49,7 +49,7 @@ module _ {T : Type 0} {w : WorldValue} {accepts : MutBor (HandValue View) → Bo
         can = may.can;
         bounded = bounded_at stmts k x at may.bounded;
         alone = alone_at w.words.locks p.hand.view.held stmts k x at may.alone;
-        runs = teams_at (MayFork w accepts gives seen p.buffer) stmts k x at may.runs;
+        runs = teams_at (MayForkTeam w accepts gives seen p.buffer) stmts k x at may.runs;
       }
 
   -- the branches of a test

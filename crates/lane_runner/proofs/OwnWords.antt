@@ -12,6 +12,7 @@ use Rattle.lane_runner.specs.World.{IsWorld}
 pub bounded_world : (program : Program) (words : WordsValue) (chunks : ChunksValue) (lane span : ℕ) → IsBounded program → words.elements ≡ elements program.arrays → lane < span
     → IsWorld (record { arrays = program.arrays; words = words; chunks = chunks; lane = lane; span = span })
 bounded_world program words chunks lane span bounded count within = record {
+  count = count;
   placed = subst (λ (n : ℕ). ArePlaced program.arrays n) (sym count) (bounded_arrays_are_placed program bounded);
   apart = own_words program bounded;
   within = within;

@@ -4,12 +4,12 @@ use Rattle.std.specs.Prelude.{map, All}
 use Rattle.std.proofs.lemmas.List.{length-append, map-append, take_more, drop_more, take-append-drop, take-append-le}
 use Rattle.std.proofs.lemmas.List.Elements.{All-head, All-tail, All-take, All-get_or}
 use Rattle.std.proofs.lemmas.List.Sums.{sum_by-append}
+use Rattle.log_format.specs.Limit.{record_limit}
 use Rattle.log_format.specs.declared.record.Kind.TheVariants as kind
 use Rattle.kernel_model.specs.declared.phase.Item.{Item}
 use Rattle.kernel_model.specs.declared.phase.Item.TheVariants as item
 use Rattle.kernel_model.specs.State.{State, Outcome, after, event, state_of}
 use Rattle.kernel_model.specs.Growth.{Grows}
-use Rattle.kernel_model.specs.Trace.{log_limit}
 use Rattle.kernel_model.specs.Value.{Site}
 use Rattle.kernel_model.specs.Parts.{Part, Set, Run, Bar, run_part, run_parts, is_bar, bar_count, is_drawn, drawn_count}
 use Rattle.kernel_model.specs.Phases.{part_of, EndsInBar, IsNoBar}
@@ -21,6 +21,7 @@ use Rattle.kernel_model.proofs.Steps.{kept-after}
 use Rattle.shared_words.specs.declared.view.View.{View}
 use Rattle.shared_words.specs.Handles.{HandValue, with_view}
 use Rattle.history_model.specs.Work.{Work}
+use Rattle.lane_runner.specs.declared.stop.Stop.TheVariants as stop
 use Rattle.lane_runner.specs.declared.stop.Halt.{Halt}
 use Rattle.lane_runner.specs.declared.stop.Halt.TheVariants as halt
 use Rattle.execution_model.specs.Elements.{element_word}
@@ -151,7 +152,7 @@ module _ (items : List Item) (i : ℕ) (x : Item) (this : IsItemAt items i x) wh
 
 -- no item yet
 pub phase_begins : (w : WorldValue) (at : Site) (slots : List ℤ) (p : Progress) → CanGo w p → Made w (run_parts at []) slots slots p p (Returned tt)
-phase_begins w at slots p can = made_still w (run_parts at []) slots p (Returned tt) can (makes-stays (run_parts at []) slots (log_limit - p.buffer.count) (Returned tt) (λ s same full. refl))
+phase_begins w at slots p can = made_still w (run_parts at []) slots p (Returned tt) can (makes-stays (run_parts at []) slots (record_limit - p.buffer.count) (Returned tt) (λ s same full. refl))
 
 -- ---- what stays
 
@@ -163,12 +164,12 @@ module _ {T : Type 0} (seen : View → T) (still : (word : ℕ → ℕ) (v : Vie
 
   pub stays : (r : Result (Unit {0}) Halt) → GoesPast bars w part slots slots' old new r → seen new.hand.view ≡ seen old.hand.view
   stays (Ok u) m = by_work m.work m.done.hand
-  stays (Err (halt.DivZero line)) m = by_work m.work m.done.hand
-  stays (Err (halt.Index line)) m = by_work m.work m.done.hand
-  stays (Err (halt.LogFull line)) m = by_work m.work m.done.hand
+  stays (Err (halt.Own (stop.DivZero line))) m = by_work m.work m.done.hand
+  stays (Err (halt.Own (stop.Index line))) m = by_work m.work m.done.hand
+  stays (Err (halt.Own (stop.LogFull line))) m = by_work m.work m.done.hand
   stays (Err (halt.Region path why)) m = by_work m.work m.done.hand
-  stays (Err (halt.Tasks line)) m = by_work m.work m.done.hand
-  stays (Err (halt.Trouble trouble)) (m, refused) = by_work m.work m.done.hand
+  stays (Err (halt.Own (stop.Tasks line))) m = by_work m.work m.done.hand
+  stays (Err (halt.Own (stop.Trouble trouble))) (m, refused) = by_work m.work m.done.hand
 
 module _ (bars : ℕ) (w : WorldValue) (part : State → Outcome (Unit {0})) (slots slots' : List ℤ) (old new : Progress) (r : Result (Unit {0}) Halt) (goes : GoesPast bars w part slots slots' old new r) where
   pub held_stays : new.hand.view.held ≡ old.hand.view.held

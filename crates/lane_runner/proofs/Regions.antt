@@ -1,6 +1,7 @@
 -- Regions: the record of the fork, and what the lanes of the region did.
 use Rattle.std.proofs.Common.{◌≡◌, inl, refl, ap, sym, ◌∙◌, subst, ℕ, ◌+◌, ◌-◌, ◌<◌, ◌≤◌, List, [], ◌∷◌, ◌++◌, length, ℤ, arith}
 use Rattle.std.specs.Prelude.{reverse, Some, None, Ok, Err}
+use Rattle.log_format.specs.Limit.{record_limit, task_limit}
 use Rattle.sw_base.specs.declared.path.Step.{Step}
 use Rattle.std.proofs.lemmas.List.{append-nil}
 use Rattle.log_format.specs.declared.record.Record.{Record}
@@ -10,7 +11,7 @@ use Rattle.kernel_syntax.specs.Tree as tree
 use Rattle.kernel_syntax.specs.Tree.{TeamTree, Code}
 use Rattle.kernel_model.specs.State.{Fork, event}
 use Rattle.kernel_model.specs.Value.{Site}
-use Rattle.kernel_model.specs.Trace.{log_limit, run}
+use Rattle.kernel_model.specs.Trace.{run}
 use Rattle.kernel_model.specs.Effect.{Returned, Makes, adds}
 use Rattle.kernel_model.proofs.RunEffects.{makes-Parallel, makes-Done}
 use Rattle.race_model.specs.Race.{held_after}
@@ -26,9 +27,9 @@ use Rattle.lane_runner.specs.Drawing.{Tally, HasDrawn}
 use Rattle.lane_runner.proofs.Drawing.{drew_forked}
 use Rattle.execution_model.specs.Elements.{element_word}
 use Rattle.lane_runner.specs.World.{WorldValue}
-use Rattle.lane_runner.specs.Going.{Progress, HasDone, HasReleased, GainsRecords, AtRegion, AtTasks, WorkHandsOn, AreFewBefore, log_of, worked, BeginsPart, effect_of, Made, Began, Takes}
+use Rattle.lane_runner.specs.Going.{Progress, HasDone, HasReleased, GainsRecords, AtRegion, AtTasks, WorkHandsOn, AreFewBefore, log_of, worked, BeginsPart, effect_of, Made, Began, PutsRecord}
 use Rattle.lane_runner.specs.Forking.{Answer, RanRegion, EndsAs, after_phases, stop_in}
-use Rattle.lane_runner.specs.Handed.{Entry, MaybeStop, HandsOn, AreFew, place_of, task_limit}
+use Rattle.lane_runner.specs.Handed.{HandedEntry, MaybeStop, HandsOn, AreFew, log_place}
 use Rattle.lane_runner.specs.Stopping.{StopsRegion, HaveEnded}
 use Rattle.lane_runner.specs.declared.stop.Stop.{Stop}
 use Rattle.lane_runner.proofs.Working.{view_same}
@@ -37,7 +38,7 @@ use Rattle.lane_runner.proofs.Stepping.{is_put_one}
 use Rattle.lane_runner.proofs.Beginning.{begins_made}
 
 module _ (w : WorldValue) (at : Site) (team : TeamTree) (some : 1 ≤ team.line) (slots : List ℤ) (old a new : Progress) (r : Answer)
-    (taken : Takes (event kind.Region team.line 0 team.span) old.hand.view old a) (ran : RanRegion w team slots old.buffer old.tally.forked a.hand new.hand a.done new.done r)
+    (taken : PutsRecord (event kind.Region team.line 0 team.span) old.hand.view old a) (ran : RanRegion w team slots old.buffer old.tally.forked a.hand new.hand a.done new.done r)
     (free : old.hand.view.held ≡ []) (still : new.buffer ≡ a.buffer) (tally : new.tally ≡ record a.tally { forked = a.tally.forked + 1 }) where
   abbrev region_work : Work
   region_work = work.Fork team.line team.span ran.phases Rest
@@ -83,11 +84,11 @@ module _ (w : WorldValue) (at : Site) (team : TeamTree) (some : 1 ≤ team.line)
     apart = inl free;
   }
 
-  region_makes : Makes (run at region_code) slots (log_limit - old.buffer.count) (effect_of slots region_work (this_fork ∷ [])) (Returned tt)
+  region_makes : Makes (run at region_code) slots (record_limit - old.buffer.count) (effect_of slots region_work (this_fork ∷ [])) (Returned tt)
   region_makes =
-      subst (λ (rs : List Record). Makes (run at region_code) slots (log_limit - old.buffer.count) (record { slots = slots; added = rs; forks = this_fork ∷ [] }) (Returned tt)) (sym region_log)
-      (makes-Parallel at slots (log_limit - old.buffer.count) team tree.Done (adds slots []) (Returned tt) (let below = taken.below in omega arith)
-      (makes-Done at slots (log_limit - old.buffer.count - 1)))
+      subst (λ (rs : List Record). Makes (run at region_code) slots (record_limit - old.buffer.count) (record { slots = slots; added = rs; forks = this_fork ∷ [] }) (Returned tt)) (sym region_log)
+      (makes-Parallel at slots (record_limit - old.buffer.count) team tree.Done (adds slots []) (Returned tt) (let below = taken.below in omega arith)
+      (makes-Done at slots (record_limit - old.buffer.count - 1)))
 
   region_runs : (program : Program) → program.arrays ≡ w.arrays → RunsRegions program (this_fork ∷ []) (work_regions region_work)
   region_runs program is = RunsRegions.region this_fork [] (record { span = team.span; phases = ran.phases }) [] refl (ran.lanes program is) (ran.drawn program is) RunsRegions.no_region
@@ -96,7 +97,7 @@ module _ (w : WorldValue) (at : Site) (team : TeamTree) (some : 1 ≤ team.line)
   this_region = record { span = team.span; phases = ran.phases }
 
   region_hands : WorkHandsOn (stop_in r) old new region_work
-  region_hands = subst (λ (es : List Entry). HandsOn (place_of old.buffer) (stop_in r) old.buffer.path old.tally.forked (this_region ∷ []) es new.done) taken.done ran.handed
+  region_hands = subst (λ (es : List HandedEntry). HandsOn (log_place old.buffer) (stop_in r) old.buffer.path old.tally.forked (this_region ∷ []) es new.done) taken.done ran.handed
 
   hands_by : (x : Answer) → r ≡ x → WorkHandsOn (stop_in x) old new region_work
   hands_by x is = subst (λ (y : Answer). WorkHandsOn (stop_in y) old new region_work) is region_hands
@@ -108,14 +109,14 @@ module _ (w : WorldValue) (at : Site) (team : TeamTree) (some : 1 ≤ team.line)
     regions_are = refl;
     earlier = old.done;
     few = λ less. less;
-    handed = subst (λ (n : ℕ). HandsOn (place_of old.buffer) stop old.buffer.path n (this_region ∷ []) old.done new.done) (let e : old.tally.forked ≡ old.tally.forked + 0 = omega arith in e) hands;
+    handed = subst (λ (n : ℕ). HandsOn (log_place old.buffer) stop old.buffer.path n (this_region ∷ []) old.done new.done) (let e : old.tally.forked ≡ old.tally.forked + 0 = omega arith in e) hands;
   }
 
   region_ends : (u : Unit {0}) → r ≡ Ok u → HaveEnded (this_region ∷ [])
   region_ends u is = ended_one this_region (subst (λ (x : Answer). EndsAs w.arrays old.buffer.path old.tally.forked this_fork ran.phases x) is ran.ends) ran.joined
 
-  region_begins : BeginsPart (run at region_code) slots (log_limit - old.buffer.count) (log_of region_work) (this_fork ∷ [])
-  region_begins = begins_made (run at region_code) slots (log_limit - old.buffer.count) (effect_of slots region_work (this_fork ∷ [])) (Returned tt) region_makes
+  region_begins : BeginsPart (run at region_code) slots (record_limit - old.buffer.count) (log_of region_work) (this_fork ∷ [])
+  region_begins = begins_made (run at region_code) slots (record_limit - old.buffer.count) (effect_of slots region_work (this_fork ∷ [])) (Returned tt) region_makes
 
   pub region_made : (u : Unit {0}) → r ≡ Ok u → AreFew new.done → Made w (run at region_code) slots slots old new (Returned tt)
   region_made u is few = record {

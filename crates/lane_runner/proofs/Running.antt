@@ -1,6 +1,7 @@
 -- How a lane goes on: statements.
 use Rattle.std.proofs.Common.{◌≡◌, ◌∙◌, refl, ap, sym, subst, ℕ, ◌-◌, List, ℤ, Option, Some, None, Result, Ok, Err}
 use Rattle.std.specs.Prelude.{slice_set}
+use Rattle.log_format.specs.Limit.{record_limit}
 use Rattle.log_format.specs.Fitting.{fitted}
 use Rattle.kernel_syntax.specs.Tree as tree
 use Rattle.kernel_syntax.specs.Tree.{Term, Code}
@@ -8,10 +9,10 @@ use Rattle.log_format.specs.declared.record.Kind.{Kind}
 use Rattle.kernel_model.specs.declared.change.Change.{Change}
 use Rattle.kernel_model.specs.Changing.{amount, changing, kind_of}
 use Rattle.kernel_model.proofs.Changing.{after_index, changed_grows, put_value, run-changing, valued_grows}
-use Rattle.kernel_model.specs.State as model
+use Rattle.kernel_model.specs.declared.stop.StopWhy.TheVariants as reason
 use Rattle.kernel_model.specs.State.{State, Outcome, and_then, after, assign, put, state_of}
 use Rattle.kernel_model.specs.Growth.{Grows}
-use Rattle.kernel_model.specs.Trace.{log_limit, run, changed}
+use Rattle.kernel_model.specs.Trace.{run, changed}
 use Rattle.kernel_model.specs.Value.{Site, Element, element_at, access, value}
 use Rattle.kernel_model.specs.Effect.{Finish, Returned, Halted}
 use Rattle.kernel_model.proofs.Effects.{makes-stays}
@@ -19,6 +20,7 @@ use Rattle.kernel_model.proofs.Joining.{after-done}
 use Rattle.kernel_model.proofs.RunEffects.{makes-Done, makes-assign}
 use Rattle.kernel_model.proofs.Equations.{run-Set}
 use Rattle.kernel_model.proofs.Growing.{grows-plain, run-grows, value-grows}
+use Rattle.lane_runner.specs.declared.stop.Stop.TheVariants as stop
 use Rattle.lane_runner.specs.declared.stop.Halt.{Halt}
 use Rattle.lane_runner.specs.declared.stop.Halt.TheVariants as halt
 use Rattle.history_model.specs.Work.{then_work}
@@ -68,7 +70,7 @@ module _ (w : WorldValue) (part : State → Outcome (Unit {0})) (slot : ℕ) (v 
     handed = m.handed;
     few = m.few;
     unrefused = m.unrefused;
-    makes = makes-assign part slot v slots (log_limit - old.buffer.count) (effect_of slots' m.work m.forks) finish m.makes;
+    makes = makes-assign part slot v slots (record_limit - old.buffer.count) (effect_of slots' m.work m.forks) finish m.makes;
     regions = m.regions;
   }
 
@@ -88,16 +90,16 @@ module _ (w : WorldValue) (part : State → Outcome (Unit {0})) (slot : ℕ) (v 
 
   pub goes_assigned : (r : Result (Unit {0}) Halt) → Goes w part (slice_set slots slot v) slots' old new r → Goes w (λ s. part (assign slot v s)) slots slots' old new r
   goes_assigned (Ok u) m = made_assigned (Returned tt) m
-  goes_assigned (Err (halt.DivZero line)) m = made_assigned (Halted model.DivZero line) m
-  goes_assigned (Err (halt.Index line)) m = made_assigned (Halted model.Index line) m
-  goes_assigned (Err (halt.LogFull line)) m = made_assigned (Halted model.LogFull line) m
+  goes_assigned (Err (halt.Own (stop.DivZero line))) m = made_assigned (Halted reason.DivZero line) m
+  goes_assigned (Err (halt.Own (stop.Index line))) m = made_assigned (Halted reason.Index line) m
+  goes_assigned (Err (halt.Own (stop.LogFull line))) m = made_assigned (Halted reason.LogFull line) m
   goes_assigned (Err (halt.Region path why)) m = begun_assigned (AtRegion path why) m
-  goes_assigned (Err (halt.Tasks line)) m = begun_assigned (AtTasks line) m
-  goes_assigned (Err (halt.Trouble trouble)) (m, refused) = (begun_assigned AtLog m, refused)
+  goes_assigned (Err (halt.Own (stop.Tasks line))) m = begun_assigned (AtTasks line) m
+  goes_assigned (Err (halt.Own (stop.Trouble trouble))) (m, refused) = (begun_assigned AtLog m, refused)
 
 -- no statement
 pub made_done : (w : WorldValue) (at : Site) (slots : List ℤ) (p : Progress) → CanGo w p → Made w (run at tree.Done) slots slots p p (Returned tt)
-made_done w at slots p can = made_still w (run at tree.Done) slots p (Returned tt) can (makes-Done at slots (log_limit - p.buffer.count))
+made_done w at slots p can = made_still w (run at tree.Done) slots p (Returned tt) can (makes-Done at slots (record_limit - p.buffer.count))
 
 -- ---- a variable is set
 
@@ -119,10 +121,10 @@ module _ (w : WorldValue) (at : Site) (slots : List ℤ) (slot : ℕ) (e : Term)
 
 -- an element that isn't there, and one that is
 pub changes_none : (w : WorldValue) (k : Kind) (found : Option Element) (v : ℤ) (line site : ℕ) (slots : List ℤ) (p : Progress) → CanGo w p → found ≡ None
-    → Made w (changed k found v line site) slots slots p p (Halted model.Index line)
+    → Made w (changed k found v line site) slots slots p p (Halted reason.Index line)
 changes_none w k found v line site slots p can is =
-    made_still w (changed k found v line site) slots p (Halted model.Index line) can
-    (makes-stays (changed k found v line site) slots (log_limit - p.buffer.count) (Halted model.Index line) (λ s same full. ap (λ o. changed k o v line site s) is))
+    made_still w (changed k found v line site) slots p (Halted reason.Index line) can
+    (makes-stays (changed k found v line site) slots (record_limit - p.buffer.count) (Halted reason.Index line) (λ s same full. ap (λ o. changed k o v line site s) is))
 
 pub changes_some : (w : WorldValue) (k : Kind) (found : Option Element) (e : Element) (v number : ℤ) (line site : ℕ) (slots : List ℤ) (old new : Progress) (r : Result (Unit {0}) Halt) → found ≡ Some e
     → number ≡ fitted v e.width → Goes w (put (access k e site line number)) slots slots old new r → Goes w (changed k found v line site) slots slots old new r

@@ -3,14 +3,16 @@ use Rattle.std.proofs.Common.{◌≡◌, refl, inr, ap, sym, ◌∙◌, subst, �
 use Rattle.std.specs.Prelude.{map, filter, reverse, All, ◌==◌}
 use Rattle.std.proofs.lemmas.List.{append-nil, reverse-append, map-append, length-append}
 use Rattle.std.proofs.lemmas.List.Elements.{All-head, All-tail, filter-append}
+use Rattle.log_format.specs.Limit.{record_limit, task_limit}
 use Rattle.log_format.specs.declared.record.Record.{Record}
 use Rattle.log_format.specs.declared.record.Kind.TheVariants as kind
 use Rattle.kernel_syntax.specs.Tree as tree
 use Rattle.kernel_syntax.specs.Tree.{Code}
-use Rattle.kernel_model.specs.State as model
+use Rattle.kernel_model.specs.declared.stop.StopWhy.{StopWhy}
+use Rattle.kernel_model.specs.declared.stop.StopWhy.TheVariants as reason
 use Rattle.kernel_model.specs.State.{State, Fork, Outcome, after, and_then, put, event, state_of}
 use Rattle.kernel_model.specs.Value.{Site}
-use Rattle.kernel_model.specs.Trace.{log_limit, run}
+use Rattle.kernel_model.specs.Trace.{run}
 use Rattle.kernel_model.specs.Effect.{Effect, Returned, Halted, Makes, adds, then_effect}
 use Rattle.kernel_model.proofs.Effects.{makes-put, makes-put_full, makes-same}
 use Rattle.kernel_model.specs.Growth.{Grows}
@@ -37,15 +39,16 @@ use Rattle.event_buffer.specs.Logged.{HoldsRecords}
 use Rattle.sw_base.specs.declared.path.Step.{Step}
 use Rattle.race_model.proofs.Held.{held_after-append}
 use Rattle.kernel_syntax.specs.declared.syntax.Array.{Array}
+use Rattle.lane_runner.specs.declared.stop.Stop.TheVariants as stop
 use Rattle.lane_runner.specs.declared.stop.Halt.{Halt}
 use Rattle.lane_runner.specs.declared.stop.Halt.TheVariants as halt
 use Rattle.lane_runner.specs.Drawing.{Tally, HasDrawn}
 use Rattle.lane_runner.proofs.Drawing.{drew_none, drew_nothing, drew_then}
 use Rattle.execution_model.specs.Elements.{element_word, layout_of}
 use Rattle.lane_runner.specs.World.{WorldValue}
-use Rattle.lane_runner.specs.Handed.{Entry, MaybeStop, place_of, task_limit}
+use Rattle.lane_runner.specs.Handed.{HandedEntry, MaybeStop, log_place}
 use Rattle.lane_runner.proofs.Handing.{work_hands, few_between, few_before_between}
-use Rattle.lane_runner.specs.Going.{Progress, CanGo, HasDone, HasReleased, GainsRecords, Cause, AtLog, AtRegion, AtTasks, stop_by, WorkHandsOn, EndsBy, StopsBy, log_of, worked, BeginsPart, effect_of, Made, Began, Goes, Takes}
+use Rattle.lane_runner.specs.Going.{Progress, CanGo, HasDone, HasReleased, GainsRecords, Cause, AtLog, AtRegion, AtTasks, stop_by, WorkHandsOn, EndsBy, StopsBy, log_of, worked, BeginsPart, effect_of, Made, Began, Goes, PutsRecord}
 use Rattle.lane_runner.proofs.Working.{log_then, no_access, view_same, gains_then, barriers_later}
 use Rattle.lane_runner.specs.Stopping.{HaveEnded, StopsAtLast}
 use Rattle.lane_runner.proofs.Stepping.{put_first}
@@ -180,7 +183,7 @@ lock_sound w mutex line = no_access (layout_of w.arrays) (event kind.Lock line m
 unlock_sound : (w : WorldValue) (mutex line : ℕ) → IsSoundRecord (layout_of w.arrays) (event kind.Unlock line mutex 0)
 unlock_sound w mutex line = no_access (layout_of w.arrays) (event kind.Unlock line mutex 0) (λ is. cc) (λ is. cc) (λ is. cc) (λ is. cc)
 
-module _ (w : WorldValue) (mutex line end : ℕ) (some : 1 ≤ line) (old a b new : Progress) (body : Work) (taken : Takes (event kind.Lock line mutex 0) (locked old.hand.view mutex) old a)
+module _ (w : WorldValue) (mutex line end : ℕ) (some : 1 ≤ line) (old a b new : Progress) (body : Work) (taken : PutsRecord (event kind.Lock line mutex 0) (locked old.hand.view mutex) old a)
     (hand_is : new.hand ≡ with_view b.hand (unlocked b.hand.view mutex)) (log_is : GainsRecords b.buffer new.buffer (log_of (Put (event kind.Unlock end mutex 0) Rest)))
     (tally_is : HasDrawn b.tally new.tally (log_of (Put (event kind.Unlock end mutex 0) Rest))) (unlocked_forks : new.tally.forked ≡ b.tally.forked) where
   section_done : HasDone w a b body → HasDone w old new (section mutex line end body)
@@ -223,14 +226,14 @@ module _ (w : WorldValue) (mutex line end : ℕ) (some : 1 ≤ line) (old a b ne
   section_regions : (P : List RegionWork → Type 0) → P (work_regions body) → P (work_regions (section mutex line end body))
   section_regions P holds = subst P (sym section_forks_no_region) holds
 
-  room_left : log_limit - a.buffer.count ≡ log_limit - old.buffer.count - 1
+  room_left : record_limit - a.buffer.count ≡ record_limit - old.buffer.count - 1
   room_left = let count = taken.log.count in omega arith
 
-  some_room : 0 < log_limit - old.buffer.count
+  some_room : 0 < record_limit - old.buffer.count
   some_room = let below = taken.below in omega arith
 
 -- the regions forked in a section
-section_hands : (stop : MaybeStop) (mutex line end : ℕ) (old a b new : Progress) → Takes (event kind.Lock line mutex 0) (locked old.hand.view mutex) old a → (body : Work) → new.done ≡ b.done
+section_hands : (stop : MaybeStop) (mutex line end : ℕ) (old a b new : Progress) → PutsRecord (event kind.Lock line mutex 0) (locked old.hand.view mutex) old a → (body : Work) → new.done ≡ b.done
     → WorkHandsOn stop a b body → WorkHandsOn stop old new (section mutex line end body)
 section_hands stop mutex line end old a b new taken body same hands =
     work_hands stop old a b new body (section mutex line end body) taken.log.place taken.log.path (ap (λ (t : Tally). t.forked) taken.tally) taken.done same
@@ -251,8 +254,8 @@ pub unlocking_grows : (at : Site) (mutex end : ℕ) (s : State) → Grows s (sta
 unlocking_grows at mutex end s =
     kept-after Grows grows-plain s (put (event kind.Unlock end mutex 0) s) (run at tree.Done) (unlock_grows mutex end s) (run-grows at tree.Done)
 
-pub full_at_unlock : (at : Site) (slots : List ℤ) (mutex end : ℕ) → Makes (λ s. after (put (event kind.Unlock end mutex 0) s) (run at tree.Done)) slots 0 (adds slots []) (Halted model.LogFull end)
-full_at_unlock at slots mutex end = makes-after_halt (put (event kind.Unlock end mutex 0)) (run at tree.Done) slots 0 (adds slots []) model.LogFull end (makes-put_full (event kind.Unlock end mutex 0) slots)
+pub full_at_unlock : (at : Site) (slots : List ℤ) (mutex end : ℕ) → Makes (λ s. after (put (event kind.Unlock end mutex 0) s) (run at tree.Done)) slots 0 (adds slots []) (Halted reason.LogFull end)
+full_at_unlock at slots mutex end = makes-after_halt (put (event kind.Unlock end mutex 0)) (run at tree.Done) slots 0 (adds slots []) reason.LogFull end (makes-put_full (event kind.Unlock end mutex 0) slots)
 
 -- ---- sections that end
 
@@ -265,8 +268,8 @@ module _ (w : WorldValue) (at : Site) (code : Code) (mutex line end : ℕ) (some
       makes-same (put (event kind.Unlock end mutex 0)) unlock_then slots' k (adds slots' (event kind.Unlock end mutex 0 ∷ [])) (Returned tt)
       (λ s. after-done at (put (event kind.Unlock end mutex 0) s)) (makes-put (event kind.Unlock end mutex 0) slots' k left refl refl)
 
-  pub section_ends : All (λ (o : ℕ). o < mutex) old.hand.view.held → Takes (event kind.Lock line mutex 0) (locked old.hand.view mutex) old a → Made w (run at code) slots slots' a b (Returned tt)
-      → Takes (event kind.Unlock end mutex 0) (unlocked b.hand.view mutex) b new → Made w (run at (tree.Critical mutex line end code tree.Done)) slots slots' old new (Returned tt)
+  pub section_ends : All (λ (o : ℕ). o < mutex) old.hand.view.held → PutsRecord (event kind.Lock line mutex 0) (locked old.hand.view mutex) old a → Made w (run at code) slots slots' a b (Returned tt)
+      → PutsRecord (event kind.Unlock end mutex 0) (unlocked b.hand.view mutex) b new → Made w (run at (tree.Critical mutex line end code tree.Done)) slots slots' old new (Returned tt)
   section_ends all taken m given = record {
     work = section mutex line end m.work;
     forks = m.forks;
@@ -282,12 +285,12 @@ module _ (w : WorldValue) (at : Site) (code : Code) (mutex line end : ℕ) (some
     few = few_between old.done a.done b.done new.done taken.done given.done m.few;
     unrefused = given.unrefused;
     makes =
-        subst (λ (e : Effect). Makes (run at (tree.Critical mutex line end code tree.Done)) slots (log_limit - old.buffer.count) e (Returned tt)) effect_is
-        (makes-Critical at slots (log_limit - old.buffer.count) mutex line end code tree.Done (effect_of slots' m.work m.forks) (adds slots' (event kind.Unlock end mutex 0 ∷ [])) (Returned tt)
+        subst (λ (e : Effect). Makes (run at (tree.Critical mutex line end code tree.Done)) slots (record_limit - old.buffer.count) e (Returned tt)) effect_is
+        (makes-Critical at slots (record_limit - old.buffer.count) mutex line end code tree.Done (effect_of slots' m.work m.forks) (adds slots' (event kind.Unlock end mutex 0 ∷ [])) (Returned tt)
         (some_room w mutex line end some old a b new m.work taken given.hand gained tallied forked)
         (subst (λ (k : ℕ). Makes (run at code) slots k (effect_of slots' m.work m.forks) (Returned tt)) (room_left w mutex line end some old a b new m.work taken given.hand gained tallied forked)
         m.makes)
-        (unlocks (log_limit - old.buffer.count - 1 - length (log_of m.work)) (let first = taken.log.count in let body = m.done.log.count in let below = given.below in omega arith)));
+        (unlocks (record_limit - old.buffer.count - 1 - length (log_of m.work)) (let first = taken.log.count in let body = m.done.log.count in let below = given.below in omega arith)));
     regions = λ program is. section_regions w mutex line end some old a b new m.work taken given.hand gained tallied forked (λ rs. RunsRegions program m.forks rs) (m.regions program is);
   }
     where
@@ -318,12 +321,12 @@ no_last [] region is = cc
 no_last (b ∷ before) region is = cc
 
 -- regions of a task that took a lock before
-stops_from : (arrays : List Array) (old a b new : Progress) (cause : Cause) (forks : List Fork) (regions : List RegionWork) {event : Record} {after : View} → Takes event after old a → new.done ≡ b.done
+stops_from : (arrays : List Array) (old a b new : Progress) (cause : Cause) (forks : List Fork) (regions : List RegionWork) {event : Record} {after : View} → PutsRecord event after old a → new.done ≡ b.done
     → StopsBy arrays a b cause forks regions → StopsBy arrays old new cause forks regions
 stops_from arrays old a b new AtLog forks regions taken same stops = (stops.0, few_between old.done a.done b.done new.done taken.done same stops.1)
 stops_from arrays old a b new (AtTasks line) forks regions taken same stops = (
   stops.0,
-  subst (λ (es : List Entry). task_limit < length es) (sym same) stops.1,
+  subst (λ (es : List HandedEntry). task_limit < length es) (sym same) stops.1,
   few_before_between None old a b new regions taken.log.place taken.log.path (ap (λ (t : Tally). t.forked) taken.tally) taken.done same stops.2,
 )
 stops_from arrays old a b new (AtRegion path why) forks regions taken same stops = (
@@ -334,7 +337,7 @@ stops_from arrays old a b new (AtRegion path why) forks regions taken same stops
 
 module _ (w : WorldValue) (part inner : State → Outcome (Unit {0})) (mutex line : ℕ) (some : 1 ≤ line) (slots slots' : List ℤ) (old a b new : Progress)
     (same : (s : State) → part s ≡ after (put (event kind.Lock line mutex 0) s) inner)
-    (taken : Takes (event kind.Lock line mutex 0) (locked old.hand.view mutex) old a) (hand_is : new.hand ≡ with_view b.hand (unlocked b.hand.view mutex)) (buffer_is : new.buffer ≡ b.buffer) (same_tally : new.tally ≡ b.tally) (done_is : new.done ≡ b.done) where
+    (taken : PutsRecord (event kind.Lock line mutex 0) (locked old.hand.view mutex) old a) (hand_is : new.hand ≡ with_view b.hand (unlocked b.hand.view mutex)) (buffer_is : new.buffer ≡ b.buffer) (same_tally : new.tally ≡ b.tally) (done_is : new.done ≡ b.done) where
   abbrev lock_record : Record
   lock_record = event kind.Lock line mutex 0
 
@@ -349,7 +352,7 @@ module _ (w : WorldValue) (part inner : State → Outcome (Unit {0})) (mutex lin
     records = λ header records holds. subst (λ (rs : List Record). HoldsRecords header new.buffer rs) (sym (append-nil records)) (subst (λ (x : Buffered). HoldsRecords header x records) (sym buffer_is) holds);
     count = ap (λ (x : Buffered). x.count) buffer_is ∙ (let e : b.buffer.count ≡ b.buffer.count + 0 = omega arith in e);
     path = ap (λ (x : Buffered). x.path) buffer_is;
-    place = ap place_of buffer_is;
+    place = ap log_place buffer_is;
   }
 
   left_log : (work : Work) → lock_record ∷ log_of work ≡ log_of (section mutex line 0 work)
@@ -360,7 +363,7 @@ module _ (w : WorldValue) (part inner : State → Outcome (Unit {0})) (mutex lin
       released_at_stop mutex line some work old.hand.view.held own
       (subst (λ (h : List ℕ). HasReleased h work own) (held_is w mutex line 0 some old a b new work taken hand_is gained tallied forked) r)
 
-  left_halts : (why : model.Stop) (at_line : ℕ) → Made w inner slots slots' a b (Halted why at_line) → Made w part slots slots' old new (Halted why at_line)
+  left_halts : (why : StopWhy) (at_line : ℕ) → Made w inner slots slots' a b (Halted why at_line) → Made w part slots slots' old new (Halted why at_line)
   left_halts why at_line m = record {
     work = section mutex line 0 m.work;
     forks = m.forks;
@@ -373,10 +376,10 @@ module _ (w : WorldValue) (part inner : State → Outcome (Unit {0})) (mutex lin
     few = few_between old.done a.done b.done new.done taken.done done_is m.few;
     unrefused = ap (λ (x : Buffered). x.refused) buffer_is ∙ m.unrefused;
     makes =
-        makes-same (λ s. after (put lock_record s) inner) part slots (log_limit - old.buffer.count) (effect_of slots' (section mutex line 0 m.work) m.forks) (Halted why at_line) same
-        (subst (λ (rs : List Record). Makes (λ s. after (put lock_record s) inner) slots (log_limit - old.buffer.count) (record { slots = slots'; added = rs; forks = m.forks }) (Halted why at_line)) (left_log m.work)
-        (makes-after (put lock_record) inner slots (log_limit - old.buffer.count) (adds slots (lock_record ∷ [])) (effect_of slots' m.work m.forks) (Halted why at_line)
-        (makes-put lock_record slots (log_limit - old.buffer.count) (some_room w mutex line 0 some old a b new m.work taken hand_is gained tallied forked) refl refl)
+        makes-same (λ s. after (put lock_record s) inner) part slots (record_limit - old.buffer.count) (effect_of slots' (section mutex line 0 m.work) m.forks) (Halted why at_line) same
+        (subst (λ (rs : List Record). Makes (λ s. after (put lock_record s) inner) slots (record_limit - old.buffer.count) (record { slots = slots'; added = rs; forks = m.forks }) (Halted why at_line)) (left_log m.work)
+        (makes-after (put lock_record) inner slots (record_limit - old.buffer.count) (adds slots (lock_record ∷ [])) (effect_of slots' m.work m.forks) (Halted why at_line)
+        (makes-put lock_record slots (record_limit - old.buffer.count) (some_room w mutex line 0 some old a b new m.work taken hand_is gained tallied forked) refl refl)
         (subst (λ (k : ℕ). Makes inner slots k (effect_of slots' m.work m.forks) (Halted why at_line)) (room_left w mutex line 0 some old a b new m.work taken hand_is gained tallied forked)
         m.makes)));
     regions = λ program is. section_regions w mutex line 0 some old a b new m.work taken hand_is gained tallied forked (λ rs. RunsRegions program m.forks rs) (m.regions program is);
@@ -404,25 +407,25 @@ module _ (w : WorldValue) (part inner : State → Outcome (Unit {0})) (mutex lin
     stops = section_regions w mutex line 0 some old a b new m.work taken hand_is gained tallied forked (λ rs. StopsBy w.arrays old new cause m.forks rs) (stops_from w.arrays old a b new cause m.forks (work_regions m.work) taken done_is m.stops);
     handed = section_hands (stop_by cause) mutex line 0 old a b new taken m.work done_is m.handed;
     begins =
-        begins_same (λ s. and_then (put lock_record s) (λ u t. inner t)) part slots (log_limit - old.buffer.count) (log_of (section mutex line 0 m.work)) m.forks (λ s. same s ∙ after_is (put lock_record s) inner)
-        (subst (λ (rs : List Record). BeginsPart (λ s. and_then (put lock_record s) (λ u t. inner t)) slots (log_limit - old.buffer.count) rs m.forks) (left_log m.work)
-        (begins_then (put lock_record) (λ u t. inner t) slots (log_limit - old.buffer.count) (adds slots (lock_record ∷ [])) tt (log_of m.work) m.forks
-        (makes-put lock_record slots (log_limit - old.buffer.count) (some_room w mutex line 0 some old a b new m.work taken hand_is gained tallied forked) refl refl)
+        begins_same (λ s. and_then (put lock_record s) (λ u t. inner t)) part slots (record_limit - old.buffer.count) (log_of (section mutex line 0 m.work)) m.forks (λ s. same s ∙ after_is (put lock_record s) inner)
+        (subst (λ (rs : List Record). BeginsPart (λ s. and_then (put lock_record s) (λ u t. inner t)) slots (record_limit - old.buffer.count) rs m.forks) (left_log m.work)
+        (begins_then (put lock_record) (λ u t. inner t) slots (record_limit - old.buffer.count) (adds slots (lock_record ∷ [])) tt (log_of m.work) m.forks
+        (makes-put lock_record slots (record_limit - old.buffer.count) (some_room w mutex line 0 some old a b new m.work taken hand_is gained tallied forked) refl refl)
         (subst (λ (k : ℕ). BeginsPart inner slots k (log_of m.work) m.forks) (room_left w mutex line 0 some old a b new m.work taken hand_is gained tallied forked)
         m.begins)));
     regions = λ program is. section_regions w mutex line 0 some old a b new m.work taken hand_is gained tallied forked (λ rs. RunsRegions program m.forks rs) (m.regions program is);
   }
 
   pub section_left : (why : Halt) → Goes w inner slots slots' a b (Err why) → Goes w part slots slots' old new (Err why)
-  section_left (halt.DivZero at_line) m = left_halts model.DivZero at_line m
-  section_left (halt.Index at_line) m = left_halts model.Index at_line m
-  section_left (halt.LogFull at_line) m = left_halts model.LogFull at_line m
+  section_left (halt.Own (stop.DivZero at_line)) m = left_halts reason.DivZero at_line m
+  section_left (halt.Own (stop.Index at_line)) m = left_halts reason.Index at_line m
+  section_left (halt.Own (stop.LogFull at_line)) m = left_halts reason.LogFull at_line m
   section_left (halt.Region path why) m = left_begins (AtRegion path why) m
-  section_left (halt.Tasks at_line) m = left_begins (AtTasks at_line) m
-  section_left (halt.Trouble trouble) (m, refused) = (left_begins AtLog m, record { refused = λ other. ap (λ (x : Buffered). x.refused) buffer_is ∙ refused.refused other })
+  section_left (halt.Own (stop.Tasks at_line)) m = left_begins (AtTasks at_line) m
+  section_left (halt.Own (stop.Trouble trouble)) (m, refused) = (left_begins AtLog m, record { refused = λ other. ap (λ (x : Buffered). x.refused) buffer_is ∙ refused.refused other })
 
 -- a lane that put a record after its step can go on
-pub can_taken : (w : WorldValue) (event : Record) (after : View) (old new : Progress) → CanGo w old → after.out ≡ old.hand.view.out → Takes event after old new → CanGo w new
+pub can_taken : (w : WorldValue) (event : Record) (after : View) (old new : Progress) → CanGo w old → after.out ≡ old.hand.view.out → PutsRecord event after old new → CanGo w new
 can_taken w event after old new can same taken = record {
   home = ap (λ (h : HandValue View). h.view.out) taken.hand ∙ same ∙ can.home;
   belongs = record { here = ap (λ (h : HandValue View). h.table) taken.hand ∙ can.belongs.here; there = ap (λ (h : HandValue View). h.there) taken.hand };

@@ -2,10 +2,10 @@
 use Rattle.std.proofs.Common.{◌≡◌, ◌≢◌, refl, inr, ap, sym, ◌∙◌, subst, ℕ, ◌+◌, ◌-◌, ◌<◌, ◌≤◌, Bool, true, false, not, List, [], ◌∷◌, ◌++◌, ℤ, None, Result, Ok, Err, arith}
 use Rattle.std.specs.Prelude.{OnOk, ◌==◌, map, reverse}
 use Rattle.std.proofs.lemmas.List.{append-nil}
+use Rattle.log_format.specs.Limit.{record_limit}
 use Rattle.log_format.specs.declared.record.Record.{Record}
-use Rattle.kernel_model.specs.State as model
+use Rattle.kernel_model.specs.declared.stop.StopWhy.TheVariants as reason
 use Rattle.kernel_model.specs.State.{State, Outcome, state_of, number_drawn}
-use Rattle.kernel_model.specs.Trace.{log_limit}
 use Rattle.kernel_model.specs.Growth.{Grows}
 use Rattle.kernel_model.specs.Effect.{Returned, Halted, Makes, adds}
 use Rattle.step_history.specs.declared.item.Deed.{Deed}
@@ -21,6 +21,7 @@ use Rattle.race_model.specs.Race.{held_after, held_after_kind}
 use Rattle.execution_model.specs.Runs.{RunsRegions}
 use Rattle.event_buffer.specs.Logged.{HoldsRecords}
 use Rattle.event_buffer.specs.declared.fault.BufferFault.{BufferFault}
+use Rattle.lane_runner.specs.declared.stop.Stop.TheVariants as stop
 use Rattle.lane_runner.specs.declared.stop.Halt.{Halt}
 use Rattle.lane_runner.specs.declared.stop.Halt.TheVariants as halt
 use Rattle.lane_runner.specs.Drawing.{Tally, HasDrawn}
@@ -59,11 +60,11 @@ waits_done w old new there waits =
     }
 
 module _ (w : WorldValue) {A : Type 0} (part : State → Outcome A) (slots : List ℤ) (line : ℕ) (grows : (s : State) → Grows s (state_of (part s)))
-    (full : Makes part slots 0 (adds slots []) (Halted model.LogFull line)) where
-  at_full : (old new : Progress) (at_line : ℕ) → CanGo w old → at_line ≡ line → log_limit ≤ old.buffer.count → new ≡ old → Made w part slots slots old new (Halted model.LogFull at_line)
+    (full : Makes part slots 0 (adds slots []) (Halted reason.LogFull line)) where
+  at_full : (old new : Progress) (at_line : ℕ) → CanGo w old → at_line ≡ line → record_limit ≤ old.buffer.count → new ≡ old → Made w part slots slots old new (Halted reason.LogFull at_line)
   at_full old new at_line can line_is most same =
-      subst (λ (p : Progress). Made w part slots slots old p (Halted model.LogFull at_line)) (sym same)
-      (subst (λ (n : ℕ). Made w part slots slots old old (Halted model.LogFull n)) (sym line_is)
+      subst (λ (p : Progress). Made w part slots slots old p (Halted reason.LogFull at_line)) (sym same)
+      (subst (λ (n : ℕ). Made w part slots slots old old (Halted reason.LogFull n)) (sym line_is)
       (record {
         work = Rest;
         forks = [];
@@ -75,14 +76,14 @@ module _ (w : WorldValue) {A : Type 0} (part : State → Outcome A) (slots : Lis
         handed = work_hands_none old old Rest refl refl;
         few = λ less. less;
         unrefused = can.unrefused;
-        makes = subst (λ (room : ℕ). Makes part slots room (adds slots []) (Halted model.LogFull line)) (let none_left : 0 ≡ log_limit - old.buffer.count = omega arith in none_left) full;
+        makes = subst (λ (room : ℕ). Makes part slots room (adds slots []) (Halted reason.LogFull line)) (let none_left : 0 ≡ record_limit - old.buffer.count = omega arith in none_left) full;
         regions = λ program is. RunsRegions.no_region;
       }))
 
   -- the stop of a record that has no place
   pub goes_unready : (old new : Progress) (why : Halt) → CanGo w old → MakesRoom line old new (Err why) → Goes w part slots slots old new (Err why)
-  goes_unready old new (halt.LogFull at_line) can (line_is, most, same) = at_full old new at_line can line_is most same
-  goes_unready old new (halt.Trouble trouble) can (waits, refused) = (
+  goes_unready old new (halt.Own (stop.LogFull at_line)) can (line_is, most, same) = at_full old new at_line can line_is most same
+  goes_unready old new (halt.Own (stop.Trouble trouble)) can (waits, refused) = (
     record {
       work = Rest;
       forks = [];
@@ -92,15 +93,15 @@ module _ (w : WorldValue) {A : Type 0} (part : State → Outcome A) (slots : Lis
       ends = tt;
       stops = (ended_none, few_still old.done new.done waits.done);
       handed = work_hands_none old new Rest waits.done refl;
-      begins = begins_none part slots (log_limit - old.buffer.count) grows;
+      begins = begins_none part slots (record_limit - old.buffer.count) grows;
       regions = λ program is. RunsRegions.no_region;
     },
     refused,
   )
-  goes_unready old new (halt.DivZero at_line) can room = absurd room
-  goes_unready old new (halt.Index at_line) can room = absurd room
+  goes_unready old new (halt.Own (stop.DivZero at_line)) can room = absurd room
+  goes_unready old new (halt.Own (stop.Index at_line)) can room = absurd room
   goes_unready old new (halt.Region path why) can room = absurd room
-  goes_unready old new (halt.Tasks at_line) can room = absurd room
+  goes_unready old new (halt.Own (stop.Tasks at_line)) can room = absurd room
 
 -- ---- one record
 
@@ -174,7 +175,7 @@ module _ (w : WorldValue) (old mid new : Progress) (event : Record) (deed : Deed
     makes =
         let below = room.may_put.below in
         let count = room.waits.count in
-        subst (λ (rs : List Record). Makes part slots (log_limit - old.buffer.count) (adds slots rs) (Returned a)) (sym (put_one event some))
-        (makes (log_limit - old.buffer.count) (omega (arith, below, count)));
+        subst (λ (rs : List Record). Makes part slots (record_limit - old.buffer.count) (adds slots rs) (Returned a)) (sym (put_one event some))
+        (makes (record_limit - old.buffer.count) (omega (arith, below, count)));
     regions = λ program is. RunsRegions.no_region;
   }

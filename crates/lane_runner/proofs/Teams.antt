@@ -16,9 +16,9 @@ use Rattle.shared_words.specs.declared.view.View.{View}
 use Rattle.shared_words.specs.Handles.{HandValue}
 use Rattle.task_place.specs.declared.locals.Locals.{Locals}
 use Rattle.lane_runner.specs.Forking.{Answer, EndsAs, stop_in, RunsTeam}
-use Rattle.lane_runner.specs.Handed.{HandsOn, LogPlace, entries_of, place_of}
+use Rattle.lane_runner.specs.Handed.{HandsOn, LogPlace, entries_of, log_place}
 use Rattle.lane_runner.specs.Going.{IsSameLog}
-use Rattle.lane_runner.specs.Teams.{EachTeam, EachTeamIn, MayFork}
+use Rattle.lane_runner.specs.Teams.{EachTeam, EachTeamIn, MayForkTeam}
 use Rattle.lane_runner.specs.World.{WorldValue}
 use Rattle.lane_runner.proofs.NewLogs.{new_logs_later}
 use Rattle.lane_runner.proofs.Phases.{IsItemAt, item_has}
@@ -38,18 +38,18 @@ teams_all P Q each (Critical mutex line end body rest) all = (teams_all P Q each
 module _ {T : Type 0} (w : WorldValue) (accepts : MutBor (HandValue View) → Bor Locals → ℕ → Vec T → Bor Team → MutBor (Vec (ClosedLog T)) → Type 0)
     (gives : MutBor (HandValue View) → Bor Locals → ℕ → Vec T → Bor Team → MutBor (Vec (ClosedLog T)) → Answer → MutBor (HandValue View) → MutBor (Vec (ClosedLog T)) → Type 0)
     (seen : Ghosts T) (old : Buffered) where
-  pub teams_of : {code code' : Code} → code ≡ code' → EachTeam (MayFork w accepts gives seen old) code → EachTeam (MayFork w accepts gives seen old) code'
-  teams_of is all = subst (EachTeam (MayFork w accepts gives seen old)) is all
+  pub teams_of : {code code' : Code} → code ≡ code' → EachTeam (MayForkTeam w accepts gives seen old) code → EachTeam (MayForkTeam w accepts gives seen old) code'
+  teams_of is all = subst (EachTeam (MayForkTeam w accepts gives seen old)) is all
 
-  pub teams_of_item : {this that : Item} → this ≡ that → EachTeamIn (MayFork w accepts gives seen old) this → EachTeamIn (MayFork w accepts gives seen old) that
-  teams_of_item is all = subst (EachTeamIn (MayFork w accepts gives seen old)) is all
+  pub teams_of_item : {this that : Item} → this ≡ that → EachTeamIn (MayForkTeam w accepts gives seen old) this → EachTeamIn (MayForkTeam w accepts gives seen old) that
+  teams_of_item is all = subst (EachTeamIn (MayForkTeam w accepts gives seen old)) is all
 
-  pub team_of_region : {code : Code} {span line end : ℕ} {body rest : Code} → code ≡ Parallel span line end body rest → EachTeam (MayFork w accepts gives seen old) code
-      → MayFork w accepts gives seen old (record { span = span; line = line; end = end; body = body })
-  team_of_region is all = (subst (EachTeam (MayFork w accepts gives seen old)) is all).0
+  pub team_of_region : {code : Code} {span line end : ℕ} {body rest : Code} → code ≡ Parallel span line end body rest → EachTeam (MayForkTeam w accepts gives seen old) code
+      → MayForkTeam w accepts gives seen old (record { span = span; line = line; end = end; body = body })
+  team_of_region is all = (subst (EachTeam (MayForkTeam w accepts gives seen old)) is all).0
 
   module _ (mid : Buffered) (same : IsSameLog old mid) where
-    place_same : place_of mid ≡ place_of old
+    place_same : log_place mid ≡ log_place old
     place_same = λ i. record { dir = same.dir i; size = same.size i; tells = same.tells i }
 
     runs_later : (team : TeamTree) → RunsTeam w accepts gives seen old team → RunsTeam w accepts gives seen mid team
@@ -66,26 +66,26 @@ module _ {T : Type 0} (w : WorldValue) (accepts : MutBor (HandValue View) → Bo
             joined = ran.joined;
             ends = subst (λ (at : List Step). EndsAs w.arrays at number (record { team = team; slots = locals.now.slots.items }) ran.phases r) (sym same.path) ran.ends;
             handed =
-                subst (λ (at : List Step). HandsOn (place_of mid) (stop_in r) at number (record { span = team.span; phases = ran.phases } ∷ []) (entries_of seen done.now.items) (entries_of seen now_done.now.items)) (sym same.path)
+                subst (λ (at : List Step). HandsOn (log_place mid) (stop_in r) at number (record { span = team.span; phases = ran.phases } ∷ []) (entries_of seen done.now.items) (entries_of seen now_done.now.items)) (sym same.path)
                 (subst (λ (place : LogPlace). HandsOn place (stop_in r) old.path number (record { span = team.span; phases = ran.phases } ∷ []) (entries_of seen done.now.items) (entries_of seen now_done.now.items)) (sym place_same) ran.handed);
           };
     }
 
-    may_fork_later : (team : TeamTree) → MayFork w accepts gives seen old team → MayFork w accepts gives seen mid team
+    may_fork_later : (team : TeamTree) → MayForkTeam w accepts gives seen old team → MayForkTeam w accepts gives seen mid team
     may_fork_later team may = record {
       path = subst (λ (at : List Step). length at < 4) (sym same.path) may.path;
       runs = runs_later team may.runs;
     }
 
     -- whose log has taken more may fork the same regions
-    pub teams_later : (code : Code) → EachTeam (MayFork w accepts gives seen old) code → EachTeam (MayFork w accepts gives seen mid) code
-    teams_later = teams_all (MayFork w accepts gives seen old) (MayFork w accepts gives seen mid) may_fork_later
+    pub teams_later : (code : Code) → EachTeam (MayForkTeam w accepts gives seen old) code → EachTeam (MayForkTeam w accepts gives seen mid) code
+    teams_later = teams_all (MayForkTeam w accepts gives seen old) (MayForkTeam w accepts gives seen mid) may_fork_later
 
     -- and those of an item
-    teams_of_item_later : (x : Item) → EachTeamIn (MayFork w accepts gives seen old) x → EachTeamIn (MayFork w accepts gives seen mid) x
+    teams_of_item_later : (x : Item) → EachTeamIn (MayForkTeam w accepts gives seen old) x → EachTeamIn (MayForkTeam w accepts gives seen mid) x
     teams_of_item_later (item.Set slot value) all = tt
     teams_of_item_later (item.Run stmt which) all = teams_later (stmt_code stmt.now Done) all
     teams_of_item_later (item.Bar line) all = tt
 
-    pub teams_of_item_at : (items : List Item) (i : ℕ) (x : Item) → IsItemAt items i x → All (EachTeamIn (MayFork w accepts gives seen old)) items → EachTeamIn (MayFork w accepts gives seen mid) x
-    teams_of_item_at items i x this all = teams_of_item_later x (item_has items i x this (EachTeamIn (MayFork w accepts gives seen old)) all)
+    pub teams_of_item_at : (items : List Item) (i : ℕ) (x : Item) → IsItemAt items i x → All (EachTeamIn (MayForkTeam w accepts gives seen old)) items → EachTeamIn (MayForkTeam w accepts gives seen mid) x
+    teams_of_item_at items i x this all = teams_of_item_later x (item_has items i x this (EachTeamIn (MayForkTeam w accepts gives seen old)) all)

@@ -1,17 +1,17 @@
 -- The value of an expression, from those of its parts.
 use Rattle.std.proofs.Common.{◌≡◌, refl, ap, sym, ◌∙◌, subst, ℕ, ◌-◌, List, [], ℤ, Option, Some, None, Result, Ok, Err, arith}
 use Rattle.std.specs.Prelude.{ok_or}
+use Rattle.log_format.specs.Limit.{record_limit}
 use Rattle.kernel_syntax.specs.declared.syntax.Op.{Op}
 use Rattle.kernel_syntax.specs.Arithmetic.{applied, negated}
 use Rattle.kernel_syntax.specs.Tree as tree
 use Rattle.kernel_syntax.specs.Tree.{Term}
-use Rattle.kernel_model.specs.State as model
+use Rattle.kernel_model.specs.declared.stop.StopWhy.TheVariants as reason
 use Rattle.kernel_model.specs.State.{State, Outcome, Gives, and_then, state_of}
 use Rattle.kernel_model.specs.Growth.{Grows}
-use Rattle.kernel_model.specs.Trace.{log_limit}
 use Rattle.kernel_model.specs.Value.{Site, Element, element_at, loaded, read, operated, value}
 use Rattle.kernel_model.specs.Effect.{Finish, Returned, Halted, Makes, adds}
-use Rattle.kernel_model.proofs.Effects.{makes-stays}
+use Rattle.kernel_model.proofs.Effects.{makes-stays, makes-Number}
 use Rattle.kernel_model.proofs.Equations.{value-Load, value-Neg, value-Binary}
 use Rattle.kernel_model.proofs.Growing.{grows-plain, value-grows}
 use Rattle.kernel_model.proofs.Steps.{kept-loaded, kept-operated, kept-and_then}
@@ -24,6 +24,8 @@ use Rattle.lane_runner.specs.declared.stop.Stop.{Stop}
 use Rattle.lane_runner.specs.declared.stop.Stop.TheVariants.{DivZero}
 use Rattle.lane_runner.specs.World.{WorldValue}
 use Rattle.shared_words.specs.declared.share.Share.{Share}
+use Rattle.task_place.specs.Operands.{left_by, with_left}
+use Rattle.task_place.proofs.Operands.{value-left, left-none, with-none}
 use Rattle.lane_runner.proofs.Drawing.{draws_left}
 use Rattle.lane_runner.specs.Going.{Progress, log_of, CanGo, ClosesAll, MadePast, Made, Goes, lane_answer}
 use Rattle.lane_runner.proofs.Working.{done_none}
@@ -52,7 +54,7 @@ closes_none (Halted why line) = tt
 
 -- a part that does nothing
 pub made_still : {A : Type 0} (w : WorldValue) (part : State → Outcome A) (slots : List ℤ) (p : Progress) (finish : Finish A) → CanGo w p
-    → Makes part slots (log_limit - p.buffer.count) (adds slots []) finish → Made w part slots slots p p finish
+    → Makes part slots (record_limit - p.buffer.count) (adds slots []) finish → Made w part slots slots p p finish
 made_still w part slots p finish can m = record {
   work = Rest;
   forks = [];
@@ -69,10 +71,10 @@ made_still w part slots p finish can m = record {
 }
 
 -- an element that isn't there, and one that is
-pub loads_none : (w : WorldValue) (found : Option Element) (line site : ℕ) (slots : List ℤ) (p : Progress) → CanGo w p → found ≡ None → Made w (loaded found line site) slots slots p p (Halted model.Index line)
+pub loads_none : (w : WorldValue) (found : Option Element) (line site : ℕ) (slots : List ℤ) (p : Progress) → CanGo w p → found ≡ None → Made w (loaded found line site) slots slots p p (Halted reason.Index line)
 loads_none w found line site slots p can is =
-    made_still w (loaded found line site) slots p (Halted model.Index line) can
-    (makes-stays (loaded found line site) slots (log_limit - p.buffer.count) (Halted model.Index line) (λ s same full. ap (λ o. loaded o line site s) is))
+    made_still w (loaded found line site) slots p (Halted reason.Index line) can
+    (makes-stays (loaded found line site) slots (record_limit - p.buffer.count) (Halted reason.Index line) (λ s same full. ap (λ o. loaded o line site s) is))
 
 pub loads_some : (w : WorldValue) (found : Option Element) (e : Element) (line site : ℕ) (slots : List ℤ) (old new : Progress) (r : Result ℤ Halt) → found ≡ Some e
     → Goes w (read e site line) slots slots old new r → Goes w (loaded found line site) slots slots old new r
@@ -106,7 +108,7 @@ module _ (w : WorldValue) (at : Site) (slots : List ℤ) where
       goes_same w _ (value at (tree.Neg operand)) slots slots old new (value-Neg at operand) (Ok (negated v))
       (goes_then w (value at operand) (λ (x : ℤ) (s : State). Gives (negated x) s) slots slots slots old new new v made (Ok (negated v))
       (made_still w (λ (s : State). Gives (negated v) s) slots new (Returned (negated v)) (can_follow w (value at operand) slots slots old new (Returned v) can made)
-      (makes-stays (λ (s : State). Gives (negated v) s) slots (log_limit - new.buffer.count) (Returned (negated v)) (λ s same full. refl))))
+      (makes-stays (λ (s : State). Gives (negated v) s) slots (record_limit - new.buffer.count) (Returned (negated v)) (λ s same full. refl))))
 
   module _ (op : Op) (line : ℕ) (left right : Term) where
     after_left : ℤ → State → Outcome ℤ
@@ -137,9 +139,9 @@ module _ (w : WorldValue) (at : Site) (slots : List ℤ) where
 
       operates : (y : ℤ) (o : Option ℤ) → CanGo w new → Goes w (operated o line) slots slots new new (lane_answer (ok_or o (DivZero line)))
       operates y None can =
-          made_still w (operated None line) slots new (Halted model.DivZero line) can (makes-stays (operated None line) slots (log_limit - new.buffer.count) (Halted model.DivZero line) (λ s same full. refl))
+          made_still w (operated None line) slots new (Halted reason.DivZero line) can (makes-stays (operated None line) slots (record_limit - new.buffer.count) (Halted reason.DivZero line) (λ s same full. refl))
       operates y (Some v) can =
-          made_still w (operated (Some v) line) slots new (Returned v) can (makes-stays (operated (Some v) line) slots (log_limit - new.buffer.count) (Returned v) (λ s same full. refl))
+          made_still w (operated (Some v) line) slots new (Returned v) can (makes-stays (operated (Some v) line) slots (record_limit - new.buffer.count) (Returned v) (λ s same full. refl))
 
       pub binary_goes : (y : ℤ) (r : Result ℤ Stop) → CanGo w mid → r ≡ ok_or (applied op x y) (DivZero line) → Made w (value at right) slots slots mid new (Returned y)
           → Goes w (value at (tree.Binary op line left right)) slots slots old new (lane_answer r)
@@ -149,3 +151,44 @@ module _ (w : WorldValue) (at : Site) (slots : List ℤ) where
           (goes_then w (value at right) (λ (z : ℤ) (s : State). operated (applied op x z) line s) slots slots slots mid new new y made_right (lane_answer r)
           (subst (λ (q : Result ℤ Stop). Goes w (operated (applied op x y) line) slots slots new new (lane_answer q)) (sym is)
           (operates y (applied op x y) (can_follow w (value at right) slots slots mid new (Returned y) can made_right))))
+
+-- a term's value from that of a left operand, so many levels below
+module _ (w : WorldValue) (at : Site) (slots : List ℤ) (e : Term) (n : ℕ) where
+  from_left : ℤ → State → Outcome ℤ
+  from_left v s = value at (with_left e n v) s
+
+  pub below_stops : (old new : Progress) (why : Halt) → Goes w (value at (left_by e n)) slots slots old new (Err why) → Goes w (value at e) slots slots old new (Err why)
+  unfolding from_left
+  below_stops old new why goes =
+      goes_same w _ (value at e) slots slots old new (value-left at e n) (Err why)
+      (goes_stop w (value at (left_by e n)) from_left slots slots old new why (λ v s. value-grows at (with_left e n v) s) goes)
+
+  pub below_goes : (old mid new : Progress) (v : ℤ) (r : Result ℤ Halt) → Made w (value at (left_by e n)) slots slots old mid (Returned v)
+      → Goes w (value at (with_left e n v)) slots slots mid new r → Goes w (value at e) slots slots old new r
+  unfolding from_left
+  below_goes old mid new v r made goes =
+      goes_same w _ (value at e) slots slots old new (value-left at e n) r
+      (goes_then w (value at (left_by e n)) from_left slots slots slots old mid new v made r goes)
+
+-- and an operation's, from that of its own
+module _ (w : WorldValue) (at : Site) (slots : List ℤ) where
+  pub number_made : (v : ℤ) (p : Progress) → CanGo w p → Made w (value at (tree.Number v)) slots slots p p (Returned v)
+  number_made v p can = made_still w (value at (tree.Number v)) slots p (Returned v) can (makes-Number at slots (record_limit - p.buffer.count) v)
+
+  module _ (op : Op) (line : ℕ) (left right : Term) (v : ℤ) (old new : Progress) (can : CanGo w old) where
+    pub operand_goes : (r : Result ℤ Halt) → Made w (value at left) slots slots old new (Returned v) → (last : Progress)
+        → Goes w (value at (with_left (tree.Binary op line left right) 1 v)) slots slots new last r → Goes w (value at (tree.Binary op line left right)) slots slots old last r
+    operand_goes r made last goes =
+        below_goes w at slots (tree.Binary op line left right) 1 old new last v r
+        (subst (λ (e : Term). Made w (value at e) slots slots old new (Returned v)) (sym (left-none left)) made) goes
+
+    pub top_stops : (why : Halt) → Goes w (value at right) slots slots old new (Err why) → Goes w (value at (with_left (tree.Binary op line left right) 1 v)) slots slots old new (Err why)
+    top_stops why goes =
+        subst (λ (e : Term). Goes w (value at (tree.Binary op line e right)) slots slots old new (Err why)) (sym (with-none left v))
+        (right_stops w at slots op line (tree.Number v) right v old old new (number_made v old can) why goes)
+
+    pub top_goes : (y : ℤ) (r : Result ℤ Stop) → r ≡ ok_or (applied op v y) (DivZero line) → Made w (value at right) slots slots old new (Returned y)
+        → Goes w (value at (with_left (tree.Binary op line left right) 1 v)) slots slots old new (lane_answer r)
+    top_goes y r is made =
+        subst (λ (e : Term). Goes w (value at (tree.Binary op line e right)) slots slots old new (lane_answer r)) (sym (with-none left v))
+        (binary_goes w at slots op line (tree.Number v) right v old old new (number_made v old can) y r can is made)

@@ -13,7 +13,7 @@ use Rattle.task_place.specs.declared.locals.Locals.{Locals}
 use Rattle.lane_runner.specs.Alone.{IsAlone}
 use Rattle.lane_runner.specs.Forking.{Answer}
 use Rattle.lane_runner.specs.Going.{CanGo, Progress}
-use Rattle.lane_runner.specs.Teams.{EachTeam, MayFork}
+use Rattle.lane_runner.specs.Teams.{EachTeam, MayForkTeam}
 use Rattle.lane_runner.specs.World.{WorldValue}
 
 -- It can go on. The statements are within the bounds of the language, and with the mutexes that it holds it may execute them alone. And
@@ -24,4 +24,4 @@ pub record MayExecute {T : Type 0} (w : WorldValue) (accepts : MutBor (HandValue
   pub can : CanGo w p
   pub bounded : IsBoundedCode code
   pub alone : IsAlone w.words.locks p.hand.view.held code
-  pub runs : EachTeam (MayFork w accepts gives seen p.buffer) code
+  pub runs : EachTeam (MayForkTeam w accepts gives seen p.buffer) code

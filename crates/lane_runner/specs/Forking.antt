@@ -22,7 +22,7 @@ use Rattle.execution_model.specs.Runs.{RunsTask, lane_begin, region_logs}
 use Rattle.task_place.specs.declared.locals.Locals.{Locals}
 use Rattle.lane_runner.specs.declared.stop.Stop.{Stop}
 use Rattle.lane_runner.specs.Children.{AreNewLogs}
-use Rattle.lane_runner.specs.Handed.{Entry, HandsOn, MaybeStop, entries_of, place_of}
+use Rattle.lane_runner.specs.Handed.{HandedEntry, HandsOn, MaybeStop, entries_of, log_place}
 use Rattle.lane_runner.specs.Stopping.{StopsRegion}
 use Rattle.execution_model.specs.Elements.{element_word, layout_of}
 use Rattle.lane_runner.specs.World.{WorldValue}
@@ -47,7 +47,7 @@ stop_in (Err stopped) = Some stopped
 
 -- The lanes of a region of this team, that of this number of a task with this log, did these phases, from these locals at the fork,
 -- ended by this answer, all their hands are home, and their logs are handed on.
-pub record RanRegion (w : WorldValue) (team : TeamTree) (slots : List ℤ) (task : Buffered) (number : ℕ) (old new : HandValue View) (before after : List Entry) (r : Answer) : Type 0 where
+pub record RanRegion (w : WorldValue) (team : TeamTree) (slots : List ℤ) (task : Buffered) (number : ℕ) (old new : HandValue View) (before after : List HandedEntry) (r : Answer) : Type 0 where
   pub phases : Phases
   pub sound : ArePhasesSound (layout_of w.arrays) team.span phases
   pub hand : new ≡ with_view old (after_phases (element_word w.arrays) team.span phases old.view)
@@ -56,7 +56,7 @@ pub record RanRegion (w : WorldValue) (team : TeamTree) (slots : List ℤ) (task
   pub drawn : (program : Program) → program.arrays ≡ w.arrays → (loop : ℕ) → DrewSome (region_logs phases team.span) loop
   pub joined : ArePhasesJoined phases
   pub ends : EndsAs w.arrays task.path number (record { team = team; slots = slots }) phases r
-  pub handed : HandsOn (place_of task) (stop_in r) task.path number (record { span = team.span; phases = phases } ∷ []) before after
+  pub handed : HandsOn (log_place task) (stop_in r) task.path number (record { span = team.span; phases = phases } ∷ []) before after
 
 -- the hand can split off those of a team: it holds no mutex, and all that were split from it are home
 pub record IsReady (hand : HandValue View) (words : WordsValue) : Type 0 where

@@ -1,15 +1,15 @@
 -- How a lane goes on: what its records, its hand and its locals have to do with the meaning of what it executes.
 use Rattle.std.specs.Prelude.{true, ◌≡◌, ◌⊎◌, ℕ, ◌+◌, ◌-◌, ◌≤◌, List, [], ◌∷◌, ◌++◌, length, map, reverse, ◌<◌, ℤ, Some, None, Result, Ok, Err, is_some}
+use Rattle.log_format.specs.Limit.{record_limit, task_limit}
 use Rattle.sw_base.specs.declared.trouble.Trouble.{Trouble}
 use Rattle.sw_base.specs.declared.trouble.Trouble.TheVariants.{Memory}
 use Rattle.log_format.specs.declared.record.Record.{Record}
 use Rattle.kernel_syntax.specs.declared.syntax.Array.{Array}
 use Rattle.sw_base.specs.declared.path.Step.{Step}
 use Rattle.kernel_syntax.specs.Program.{Program}
-use Rattle.kernel_model.specs.State as model
+use Rattle.kernel_model.specs.declared.stop.StopWhy.TheVariants as reason
 use Rattle.kernel_model.specs.State.{State, Fork, Outcome, state_of, reads_of, chunks_of}
 use Rattle.kernel_model.specs.Value.{Site}
-use Rattle.kernel_model.specs.Trace.{log_limit}
 use Rattle.kernel_model.specs.Effect.{Finish, Returned, Halted, Makes, Effect, state_with}
 use Rattle.shared_words.specs.declared.view.View.{View}
 use Rattle.shared_words.specs.Handles.{HandValue, Belongs, with_view}
@@ -31,7 +31,7 @@ use Rattle.lane_runner.specs.declared.stop.Stop.{Stop}
 use Rattle.lane_runner.specs.declared.stop.Halt.TheVariants as halt
 use Rattle.lane_runner.specs.declared.stop.Stop.TheVariants as stop
 use Rattle.lane_runner.specs.Drawing.{Tally, HasDrawn}
-use Rattle.lane_runner.specs.Handed.{Entry, HandsOn, MaybeStop, AreFew, place_of, task_limit}
+use Rattle.lane_runner.specs.Handed.{HandedEntry, HandsOn, MaybeStop, AreFew, log_place}
 use Rattle.lane_runner.specs.Stopping.{HaveEnded, LastIsRegion, LastIsRegionAt, StopsAtLast}
 use Rattle.execution_model.specs.Elements.{element_word, layout_of}
 use Rattle.lane_runner.specs.World.{WorldValue}
@@ -45,7 +45,7 @@ pub record Progress : Type 0 where
   pub hand : HandValue View
   pub buffer : Buffered
   pub tally : Tally
-  pub done : List Entry
+  pub done : List HandedEntry
 
 -- the lane can go on: its hands belong to the words and to the counters, all that were split off the first are home, its log has
 -- refused nothing and tells each fork, and it may draw as often as its log has room
@@ -54,7 +54,7 @@ pub record CanGo (w : WorldValue) (p : Progress) : Type 0 where
   pub home : p.hand.view.out ≡ []
   pub unrefused : p.buffer.refused ≡ None
   pub drawing : Belongs p.tally.draws w.chunks.table
-  pub enough : log_limit ≤ p.tally.draws.view.left + p.buffer.count
+  pub enough : record_limit ≤ p.tally.draws.view.left + p.buffer.count
   pub forks : p.tally.forked ≤ p.buffer.count
 
 -- a record can be put: the hand is there, and the log has refused nothing
@@ -80,7 +80,7 @@ pub record GainsRecords (old new : Buffered) (added : List Record) : Type 0 wher
   pub records : (header : List ℕ) (records : List Record) → HoldsRecords header old records → HoldsRecords header new (records ++ added)
   pub count : new.count ≡ old.count + length added
   pub path : new.path ≡ old.path
-  pub place : place_of new ≡ place_of old
+  pub place : log_place new ≡ log_place old
 
 -- it is the same log before and after
 pub record IsSameLog (old new : Buffered) : Type 0 where
@@ -149,9 +149,9 @@ pub record AreFewBefore (stop : MaybeStop) (old new : Progress) (regions : List 
   pub before : List RegionWork
   pub last : RegionWork
   pub regions_are : regions ≡ before ++ last ∷ []
-  pub earlier : List Entry
+  pub earlier : List HandedEntry
   pub few : AreFew old.done → AreFew earlier
-  pub handed : HandsOn (place_of old.buffer) stop old.buffer.path (old.tally.forked + length before) (last ∷ []) earlier new.done
+  pub handed : HandsOn (log_place old.buffer) stop old.buffer.path (old.tally.forked + length before) (last ∷ []) earlier new.done
 
 -- what the regions forked have to do with it, where the task has forked others before
 abbrev pub StopsBy : List Array → Progress → Progress → Cause → List Fork → List RegionWork → Type 0
@@ -167,7 +167,7 @@ stop_by (AtTasks line) = None
 
 -- the regions that the work forked added their logs to those handed on before
 abbrev pub WorkHandsOn : MaybeStop → Progress → Progress → Work → Type 0
-WorkHandsOn stop old new work = HandsOn (place_of old.buffer) stop old.buffer.path old.tally.forked (work_regions work) old.done new.done
+WorkHandsOn stop old new work = HandsOn (log_place old.buffer) stop old.buffer.path old.tally.forked (work_regions work) old.done new.done
 
 -- what of the meaning of a part its work has made
 abbrev pub effect_of : List ℤ → Work → List Fork → Effect
@@ -185,7 +185,7 @@ pub record MadePast {A : Type 0} (bars : ℕ) (w : WorldValue) (part : State →
   pub handed : WorkHandsOn None old new work
   pub few : AreFew old.done → AreFew new.done
   pub unrefused : new.buffer.refused ≡ None
-  pub makes : Makes part slots (log_limit - old.buffer.count) (effect_of slots' work forks) finish
+  pub makes : Makes part slots (record_limit - old.buffer.count) (effect_of slots' work forks) finish
   pub regions : (program : Program) → program.arrays ≡ w.arrays → RunsRegions program forks (work_regions work)
 
 -- past none
@@ -202,7 +202,7 @@ pub record Began {A : Type 0} (w : WorldValue) (part : State → Outcome A) (slo
   pub ends : EndsBy cause own (log_of work)
   pub stops : StopsBy w.arrays old new cause forks (work_regions work)
   pub handed : WorkHandsOn (stop_by cause) old new work
-  pub begins : BeginsPart part slots (log_limit - old.buffer.count) (log_of work) forks
+  pub begins : BeginsPart part slots (record_limit - old.buffer.count) (log_of work) forks
   pub regions : (program : Program) → program.arrays ≡ w.arrays → RunsRegions program forks (work_regions work)
 
 -- nothing was put, whatever the log took
@@ -211,7 +211,7 @@ pub record Waits (old new : Progress) : Type 0 where
   pub records : (header : List ℕ) (records : List Record) → HoldsRecords header old.buffer records → HoldsRecords header new.buffer records
   pub count : new.buffer.count ≡ old.buffer.count
   pub path : new.buffer.path ≡ old.buffer.path
-  pub place : place_of new.buffer ≡ place_of old.buffer
+  pub place : log_place new.buffer ≡ log_place old.buffer
   pub tally : new.tally ≡ old.tally
   pub done : new.done ≡ old.done
 
@@ -224,39 +224,31 @@ pub record HasRoomFor (old new : Progress) : Type 0 where
 pub record Refused (trouble : Trouble) (new : Progress) : Type 0 where
   pub refused : (trouble ≡ Memory → ⊥) → new.buffer.refused ≡ Some trouble
 
--- what stops a lane where its own task stops so
-abbrev pub halt_for : Stop → Halt
-halt_for (stop.DivZero line) = halt.DivZero line
-halt_for (stop.Index line) = halt.Index line
-halt_for (stop.LogFull line) = halt.LogFull line
-halt_for (stop.Tasks line) = halt.Tasks line
-halt_for (stop.Trouble trouble) = halt.Trouble trouble
-
 -- the answer of a lane for a part of a statement, where the part answers a value or the stop of the lane's own task
 abbrev pub lane_answer : {A : Type 0} → Result A Stop → Result A Halt
 lane_answer (Ok v) = Ok v
-lane_answer (Err why) = Err (halt_for why)
+lane_answer (Err why) = Err (halt.Own why)
 
 -- How the execution of a part ends, by what is answered: past so many barriers of the team where it ends without a stop, and else past
 -- none.
 abbrev pub GoesPast : {A : Type 0} → ℕ → WorldValue → (State → Outcome A) → List ℤ → List ℤ → Progress → Progress → Result A Halt → Type 0
 GoesPast bars w part slots slots' old new (Ok v) = MadePast bars w part slots slots' old new (Returned v)
-GoesPast bars w part slots slots' old new (Err (halt.DivZero line)) = Made w part slots slots' old new (Halted model.DivZero line)
-GoesPast bars w part slots slots' old new (Err (halt.Index line)) = Made w part slots slots' old new (Halted model.Index line)
-GoesPast bars w part slots slots' old new (Err (halt.LogFull line)) = Made w part slots slots' old new (Halted model.LogFull line)
+GoesPast bars w part slots slots' old new (Err (halt.Own (stop.DivZero line))) = Made w part slots slots' old new (Halted reason.DivZero line)
+GoesPast bars w part slots slots' old new (Err (halt.Own (stop.Index line))) = Made w part slots slots' old new (Halted reason.Index line)
+GoesPast bars w part slots slots' old new (Err (halt.Own (stop.LogFull line))) = Made w part slots slots' old new (Halted reason.LogFull line)
 GoesPast bars w part slots slots' old new (Err (halt.Region path why)) = Began w part slots old new (AtRegion path why)
-GoesPast bars w part slots slots' old new (Err (halt.Tasks line)) = Began w part slots old new (AtTasks line)
-GoesPast bars w part slots slots' old new (Err (halt.Trouble trouble)) = Began w part slots old new AtLog × Refused trouble new
+GoesPast bars w part slots slots' old new (Err (halt.Own (stop.Tasks line))) = Began w part slots old new (AtTasks line)
+GoesPast bars w part slots slots' old new (Err (halt.Own (stop.Trouble trouble))) = Began w part slots old new AtLog × Refused trouble new
 
 -- past none
 abbrev pub Goes : {A : Type 0} → WorldValue → (State → Outcome A) → List ℤ → List ℤ → Progress → Progress → Result A Halt → Type 0
 Goes w part slots slots' old new r = GoesPast 0 w part slots slots' old new r
 
 -- one record was put, after its step, which left this view
-pub record Takes (event : Record) (after : View) (old new : Progress) : Type 0 where
+pub record PutsRecord (event : Record) (after : View) (old new : Progress) : Type 0 where
   pub hand : new.hand ≡ with_view old.hand after
   pub log : GainsRecords old.buffer new.buffer (event ∷ [])
-  pub below : old.buffer.count < log_limit
+  pub below : old.buffer.count < record_limit
   pub unrefused : new.buffer.refused ≡ None
   pub tally : new.tally ≡ old.tally
   pub done : new.done ≡ old.done
@@ -269,11 +261,11 @@ stop_for (fault.Trouble trouble) line = stop.Trouble trouble
 -- room was made for one more record, or the log is full at its line, or refused
 abbrev pub MakesRoom : ℕ → Progress → Progress → Result (Unit {0}) Halt → Type 0
 MakesRoom line old new (Ok _) = HasRoomFor old new
-MakesRoom line old new (Err (halt.LogFull at_line)) = (at_line ≡ line) × (log_limit ≤ old.buffer.count) × (new ≡ old)
-MakesRoom line old new (Err (halt.Trouble trouble)) = Waits old new × Refused trouble new
+MakesRoom line old new (Err (halt.Own (stop.LogFull at_line))) = (at_line ≡ line) × (record_limit ≤ old.buffer.count) × (new ≡ old)
+MakesRoom line old new (Err (halt.Own (stop.Trouble trouble))) = Waits old new × Refused trouble new
 MakesRoom line old new (Err _) = ⊥
 
 -- the record was put after its step, or has no place
 abbrev pub TakesOrHalts : {A : Type 0} → Record → View → Progress → Progress → Result A Halt → Type 0
-TakesOrHalts event after old new (Ok _) = Takes event after old new
+TakesOrHalts event after old new (Ok _) = PutsRecord event after old new
 TakesOrHalts event after old new (Err why) = MakesRoom event.line old new (Err why)

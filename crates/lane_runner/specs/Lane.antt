@@ -18,7 +18,7 @@ use Rattle.lane_runner.specs.declared.stop.Stop.TheVariants as stop
 use Rattle.lane_runner.specs.Drawing.{Tally}
 use Rattle.lane_runner.specs.Forking.{IsReady}
 use Rattle.lane_runner.specs.Going.{Progress, CanGo, GoesPast, IsSameLog, TakesOrHalts, site}
-use Rattle.lane_runner.specs.Handed.{Entry, MaybeStop}
+use Rattle.lane_runner.specs.Handed.{HandedEntry, MaybeStop}
 use Rattle.lane_runner.specs.World.{WorldValue}
 
 -- Its path, its locals, its hand, the buffer before its log, what it drew and how many regions it forked, the logs that these handed
@@ -30,7 +30,7 @@ pub record LaneValue : Type 0 where
   pub hand : HandValue View
   pub buffer : Buffered
   pub tally : Tally
-  pub done : List Entry
+  pub done : List HandedEntry
   pub stopped : MaybeStop
 
 -- what of it changes with each step
@@ -53,33 +53,21 @@ IsWithoutHand old new = new ≡ with_hand old new.hand
 
 -- which task stopped, and why: the lane at this path, or a task of a region that it forked
 abbrev pub stop_of : List Step → Halt → List Step × Stop
-stop_of path (halt.DivZero line) = (path, stop.DivZero line)
-stop_of path (halt.Index line) = (path, stop.Index line)
-stop_of path (halt.LogFull line) = (path, stop.LogFull line)
+stop_of path (halt.Own why) = (path, why)
 stop_of path (halt.Region below why) = (below, why)
-stop_of path (halt.Tasks line) = (path, stop.Tasks line)
-stop_of path (halt.Trouble trouble) = (path, stop.Trouble trouble)
-
--- why a lane doesn't go on that stopped so itself
-abbrev pub own_halt : Stop → Halt
-own_halt (stop.DivZero line) = halt.DivZero line
-own_halt (stop.Index line) = halt.Index line
-own_halt (stop.LogFull line) = halt.LogFull line
-own_halt (stop.Tasks line) = halt.Tasks line
-own_halt (stop.Trouble trouble) = halt.Trouble trouble
 
 -- why the lane at this path doesn't go on, if it doesn't, by which task stopped, and why
 abbrev pub halt_of : List Step → MaybeStop → Option Halt
 halt_of path None = None
-halt_of path (Some stopped) = Some (if eq_by_cmp path_cmp stopped.0 path then own_halt stopped.1 else halt.Region stopped.0 stopped.1)
+halt_of path (Some stopped) = Some (if eq_by_cmp path_cmp stopped.0 path then halt.Own stopped.1 else halt.Region stopped.0 stopped.1)
 
 abbrev pub halt_in : LaneValue → Option Halt
 halt_in lane = halt_of lane.path lane.stopped
 
 -- what the execution of a part answered, where the lane doesn't go on for this reason, if it doesn't
-abbrev pub answer_of : Option Halt → Result (Unit {0}) Halt
-answer_of None = Ok tt
-answer_of (Some why) = Err why
+abbrev pub answer_due : Option Halt → Result (Unit {0}) Halt
+answer_due None = Ok tt
+answer_due (Some why) = Err why
 
 -- what the lane notes of such an answer
 abbrev pub noted : List Step → Result (Unit {0}) Halt → MaybeStop
@@ -102,7 +90,7 @@ pub record CanGoOn (w : WorldValue) (items : List Item) (lane : LaneValue) : Typ
 -- The lane executed the items of a phase.
 pub record Executed (w : WorldValue) (items : List Item) (old new : LaneValue) : Type 0 where
   pub path : new.path ≡ old.path
-  pub goes : GoesPast (bar_count (map part_of items)) w (run_parts (site w) (map part_of items)) old.locals new.locals (progress old) (progress new) (answer_of (halt_in new))
+  pub goes : GoesPast (bar_count (map part_of items)) w (run_parts (site w) (map part_of items)) old.locals new.locals (progress old) (progress new) (answer_due (halt_in new))
   pub log : IsSameLog old.buffer new.buffer
   pub loops : new.stopped ≡ None → new.tally.next_loop ≡ old.tally.next_loop + drawn_count (map part_of items)
   pub ready : IsReady new.hand w.words
@@ -112,5 +100,5 @@ pub record Executed (w : WorldValue) (items : List Item) (old new : LaneValue) :
 pub record PutsEnd (line : ℕ) (old new : LaneValue) : Type 0 where
   pub path : new.path ≡ old.path
   pub locals : new.locals ≡ old.locals
-  pub takes : TakesOrHalts (event kind.End line 0 0) old.hand.view (progress old) (progress new) (answer_of (halt_in new))
+  pub takes : TakesOrHalts (event kind.End line 0 0) old.hand.view (progress old) (progress new) (answer_due (halt_in new))
   pub log : IsSameLog old.buffer new.buffer

@@ -6,7 +6,7 @@ use Rattle.log_format.specs.declared.record.Kind.TheVariants.{Region}
 use Rattle.std.specs.List.{flat_map}
 use Rattle.kernel_syntax.specs.declared.syntax.Array.{Array}
 use Rattle.kernel_syntax.specs.Program.{Program}
-use Rattle.kernel_model.specs.State as model
+use Rattle.kernel_model.specs.declared.stop.StopWhy.TheVariants as reason
 use Rattle.kernel_model.specs.State.{Fork}
 use Rattle.kernel_model.specs.Trace.{Start, Ending, Stopped}
 use Rattle.kernel_model.specs.Folder.{own_trace, IsTracedTo}
@@ -24,9 +24,9 @@ HaveEnded regions = All (λ (r : RegionWork). PhasesEnd r.phases × ArePhasesJoi
 -- how the trace of a task ends that stops so; none where no trace tells it: the run had too many tasks, no memory was found, or a
 -- call on a log failed
 abbrev pub ending_for : Stop → Option Ending
-ending_for (stop.DivZero line) = Some (Stopped model.DivZero line)
-ending_for (stop.Index line) = Some (Stopped model.Index line)
-ending_for (stop.LogFull line) = Some (Stopped model.LogFull line)
+ending_for (stop.DivZero line) = Some (Stopped reason.DivZero line)
+ending_for (stop.Index line) = Some (Stopped reason.Index line)
+ending_for (stop.LogFull line) = Some (Stopped reason.LogFull line)
 ending_for (stop.Tasks line) = None
 ending_for (stop.Trouble trouble) = None
 

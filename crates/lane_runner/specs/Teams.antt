@@ -35,7 +35,7 @@ EachTeamIn P (item.Run stmt which) = EachTeam P (stmt_code stmt.now Done)
 EachTeamIn P _ = Unit {0}
 
 -- a task with this log may fork a region of this team: it isn't too deep for one, and the function that is called runs it
-pub record MayFork {T : Type 0} (w : WorldValue) (accepts : MutBor (HandValue View) → Bor Locals → ℕ → Vec T → Bor Team → MutBor (Vec (ClosedLog T)) → Type 0)
+pub record MayForkTeam {T : Type 0} (w : WorldValue) (accepts : MutBor (HandValue View) → Bor Locals → ℕ → Vec T → Bor Team → MutBor (Vec (ClosedLog T)) → Type 0)
     (gives : MutBor (HandValue View) → Bor Locals → ℕ → Vec T → Bor Team → MutBor (Vec (ClosedLog T)) → Answer → MutBor (HandValue View) → MutBor (Vec (ClosedLog T)) → Type 0)
     (seen : Ghosts T) (task : Buffered) (team : TeamTree) : Type 0 where
   pub path : length task.path < 4

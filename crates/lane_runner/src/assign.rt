@@ -9,7 +9,7 @@ ghost use Rattle.kernel_model.specs.Value.{element_at};
 ghost use Rattle.lane_runner.specs.Going.{CanGo, Goes, IsSameLog, site};
 
 use crate::frame::Frame;
-use crate::stop::Halt;
+use crate::stop::{Halt, Stop};
 use crate::track::Track;
 use crate::value::value;
 use crate::world::World;
@@ -41,7 +41,7 @@ fn put_value<L: Log, R: Threads + Wait + Copy + Send + 'static>(
     ensures tally { track.new.tally ≡ track.old.tally }
 {
     let Some(element) = world.element(array, index) else {
-        return Err(Halt::Index { line });
+        return Err(Halt::Own(Stop::Index { line }));
     };
     let fitted = fit(amount, element.width);
     track.change(rt, alloc, world, change, &element, fitted, line, place)

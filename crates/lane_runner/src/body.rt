@@ -4,7 +4,6 @@ ghost use Rattle.kernel_syntax.specs.Program.{code_of, stmt_code};
 ghost use Rattle.kernel_syntax.specs.Tree as tree;
 ghost use Rattle.kernel_syntax.specs.Tree.{Done};
 ghost use Rattle.kernel_model.specs.Trace.{run, turns};
-ghost use Rattle.kernel_model.specs.Iterations.{total_of};
 ghost use Rattle.kernel_model.specs.Drawing.{turn_from};
 ghost use Rattle.lane_runner.specs.Executing.{MayExecute};
 ghost use Rattle.lane_runner.specs.Going.{Goes, IsSameLog, site};
@@ -21,22 +20,7 @@ use std::marker::Send;
 use std::sync::Wait;
 use std::thread::Threads;
 use sw_base::{ClosedLog, Log, Path};
-use task_place::Locals;
-
-/// How many turns a loop has.
-pub(crate) fn total_of(from: i64, to: i64) -> u64
-    ensures { result ≡ total_of from to }
-{
-    if from < to { to.abs_diff(from) } else { 0 }
-}
-
-/// The number of a turn.
-fn number_at(from: i64, first: u64, i: u64) -> i64
-    requires { (from +ℤ pos (first + i)) ≤ℤ pos (2 ^ 63 - 1) }
-    ensures { result ≡ from +ℤ pos (first + i) }
-{
-    from.wrapping_add_unsigned(first + i)
-}
+use task_place::{Locals, number_at, total_of};
 
 impl<L: Log> Frame<L> {
     /// Executes the statements of a body.

@@ -1,8 +1,9 @@
 //! Worksharing loops whose chunks are drawn.
 ghost use Rattle.std.specs.Prelude.{IfOk, ◌≡◌, ◌+◌, ◌-◌, ◌<◌, ◌≤◌, ◌^◌, ℕ, pos, ◌+ℤ◌, ◌≤ℤ◌};
+ghost use Rattle.log_format.specs.Limit.{record_limit};
 ghost use Rattle.kernel_syntax.specs.Program.{code_of};
 ghost use Rattle.kernel_model.specs.Iterations.{chunk_count, chunk_iterations};
-ghost use Rattle.kernel_model.specs.Trace.{each, log_limit};
+ghost use Rattle.kernel_model.specs.Trace.{each};
 ghost use Rattle.kernel_model.specs.Drawing.{turn_from, draw_once, draw_all};
 ghost use Rattle.lane_runner.specs.Drawing.{HasCounters, open_past};
 ghost use Rattle.lane_runner.specs.Executing.{MayExecute};
@@ -53,7 +54,7 @@ impl<L: Log> Frame<L> {
         ensures goes { Goes world.now (draw_once line (chunk_count chunk total) (λ q. each (chunk_iterations chunk total q) (turn_from (site world.now) (code_of body.now.stmts.items) slot from))) self.old.locals.slots.items self.new.locals.slots.items self.old.track self.new.track result }
         ensures log { IsSameLog self.old.track.buffer self.new.track.buffer }
         ensures loops { IfOk result (λ more. self.new.track.tally.next_loop ≡ open_past more self.old.track.tally.next_loop) }
-        ensures below { IfOk result (λ _. self.old.track.buffer.count < log_limit) }
+        ensures below { IfOk result (λ _. self.old.track.buffer.count < record_limit) }
         ensures count { IfOk result (λ _. self.old.track.buffer.count < self.new.track.buffer.count) }
     {
         let chunks = total.div_ceil(chunk);

@@ -2,7 +2,7 @@
 ghost use Rattle.std.specs.Prelude.{◌≡◌, ◌≢◌, true, false, ◌≤◌, ◌<◌, All, None};
 ghost use Rattle.lane_runner.specs.Lane.{CanGoOn, Executed, IsLanePath, PutsEnd, answer_noted, noted, progress, stop_of, with_hand};
 ghost use Rattle.lane_runner.specs.Phase.{IsPhase};
-ghost use Rattle.lane_runner.specs.Teams.{EachTeamIn, MayFork};
+ghost use Rattle.lane_runner.specs.Teams.{EachTeamIn, MayForkTeam};
 
 use crate::frame::Frame;
 use crate::stop::{Halt, Stop};
@@ -52,12 +52,8 @@ fn stop_of(path: &Path, halt: Halt) -> (Path, Stop)
     ensures { result ≡ stop_of path.now halt }
 {
     match halt {
-        Halt::DivZero { line } => (path.copy(), Stop::DivZero { line }),
-        Halt::Index { line } => (path.copy(), Stop::Index { line }),
-        Halt::LogFull { line } => (path.copy(), Stop::LogFull { line }),
+        Halt::Own(why) => (path.copy(), why),
         Halt::Region(below, why) => (below, why),
-        Halt::Tasks { line } => (path.copy(), Stop::Tasks { line }),
-        Halt::Trouble(trouble) => (path.copy(), Stop::Trouble(trouble)),
     }
 }
 
@@ -165,7 +161,7 @@ impl<L: Log> Lane<L> {
         requires can { CanGoOn world.now phase.now self.old }
         requires phase { IsPhase world.now.words.locks phase.now }
         requires number { world.now.chunks.loops < 4294967296 }
-        requires runs { All (EachTeamIn (MayFork world.now (F.pre region.now) (F.post region.now) L.Log self.old.buffer)) phase.now }
+        requires runs { All (EachTeamIn (MayForkTeam world.now (F.pre region.now) (F.post region.now) L.Log self.old.buffer)) phase.now }
         ensures executed { Executed world.now phase.now self.old self.new }
         ensures tells { result ≡ answer_noted self.new.stopped }
     {

@@ -10,7 +10,7 @@ ghost use Rattle.sw_base.specs.declared.path.Step.{Step};
 ghost use Rattle.sw_base.specs.Names.{IsUnder};
 ghost use Rattle.history_model.specs.Work.{Work, RegionWork};
 ghost use Rattle.execution_model.specs.Runs.{logged_tasks};
-ghost use Rattle.lane_runner.specs.Handed.{Entry, LogPlace, MaybeStop, TaskHands, RegionsHand, AreEntriesOf, AreWithin};
+ghost use Rattle.lane_runner.specs.Handed.{HandedEntry, LogPlace, MaybeStop, TaskHands, RegionsHand, AreEntriesOf, AreNoDeeper};
 ghost use Rattle.execution_model.specs.Elements.{element_width};
 ghost use Rattle.lane_runner.specs.World.{IsWorld};
 
@@ -28,13 +28,13 @@ pub fn elements_of_a_kernel_have_widths()
 
 /// The logs that the regions of a task hand on are those of tasks below it.
 pub fn handed_logs_are_of_tasks_below()
-    ensures { (place : LogPlace) (stop : MaybeStop) (path : List Step) (number : ℕ) (regions : List RegionWork) (entries : List Entry) → RegionsHand place stop path number regions entries →
-        All (λ (e : Entry). IsUnder e.task path) entries }
+    ensures { (place : LogPlace) (stop : MaybeStop) (path : List Step) (number : ℕ) (regions : List RegionWork) (entries : List HandedEntry) → RegionsHand place stop path number regions entries →
+        All (λ (e : HandedEntry). IsUnder e.task path) entries }
 {}
 
 /// The logs of the root and of all tasks below it are those of the tasks of its tree of work, in the order of an index, where no path has
 /// more steps than the tree is listed to.
 pub fn handed_logs_are_those_of_the_tasks()
-    ensures { (place : LogPlace) (stop : MaybeStop) (depth : ℕ) (root : Work) (entries : List Entry) → TaskHands place stop [] (root ∷ []) entries → AreWithin depth entries →
+    ensures { (place : LogPlace) (stop : MaybeStop) (depth : ℕ) (root : Work) (entries : List HandedEntry) → TaskHands place stop [] (root ∷ []) entries → AreNoDeeper depth entries →
         AreEntriesOf place stop (logged_tasks depth root) entries }
 {}

@@ -42,7 +42,7 @@ pub use laws::{
     arrays_of_a_kernel_have_words, elements_of_a_kernel_have_widths,
     handed_logs_are_of_tasks_below, handed_logs_are_those_of_the_tasks,
 };
-pub use stop::{Halt, Stop, TASK_LIMIT};
+pub use stop::{Halt, Stop};
 pub use task_place::{Element, Locals};
 pub use track::Track;
 pub use world::World;

@@ -8,7 +8,7 @@ ghost use Rattle.kernel_model.specs.Phases.{part_of, part_of_stmt, without_barri
 ghost use Rattle.kernel_model.specs.Trace.{run};
 ghost use Rattle.lane_runner.specs.Going.{CanGo, Goes, GoesPast, IsSameLog, site};
 ghost use Rattle.lane_runner.specs.Phase.{IsItem, IsOfTeam};
-ghost use Rattle.lane_runner.specs.Teams.{EachTeam, EachTeamIn, MayFork};
+ghost use Rattle.lane_runner.specs.Teams.{EachTeam, EachTeamIn, MayForkTeam};
 
 use crate::frame::Frame;
 use crate::stop::{Halt, Stop};
@@ -42,7 +42,7 @@ impl<L: Log> Frame<L> {
         requires own { IsOfTeam world.now.words.locks (stmt_code stmt.now Done) }
         requires counters { self.old.track.tally.next_loop + drawn_count (part_of_stmt stmt.now ∷ []) ≤ world.now.chunks.loops }
         requires number { self.old.track.tally.next_loop < 4294967296 }
-        requires runs { EachTeam (MayFork world.now (F.pre region.now) (F.post region.now) L.Log self.old.track.buffer) (stmt_code stmt.now Done) }
+        requires runs { EachTeam (MayForkTeam world.now (F.pre region.now) (F.post region.now) L.Log self.old.track.buffer) (stmt_code stmt.now Done) }
         ensures goes { Goes world.now (run (site world.now) (without_barrier (stmt_code stmt.now Done))) self.old.locals.slots.items self.new.locals.slots.items self.old.track self.new.track result }
         ensures log { IsSameLog self.old.track.buffer self.new.track.buffer }
         ensures loops { IfOk result (λ _. self.new.track.tally.next_loop ≡ self.old.track.tally.next_loop + drawn_count (part_of_stmt stmt.now ∷ [])) }
@@ -81,7 +81,7 @@ impl<L: Log> Frame<L> {
         requires item { IsItem world.now.words.locks item.now }
         requires counters { self.old.track.tally.next_loop + drawn_count (part_of item.now ∷ []) ≤ world.now.chunks.loops }
         requires number { self.old.track.tally.next_loop < 4294967296 }
-        requires runs { EachTeamIn (MayFork world.now (F.pre region.now) (F.post region.now) L.Log self.old.track.buffer) item.now }
+        requires runs { EachTeamIn (MayForkTeam world.now (F.pre region.now) (F.post region.now) L.Log self.old.track.buffer) item.now }
         ensures goes { GoesPast (bar_count (part_of item.now ∷ [])) world.now (run_part (site world.now) (part_of item.now)) self.old.locals.slots.items self.new.locals.slots.items self.old.track self.new.track result }
         ensures log { IsSameLog self.old.track.buffer self.new.track.buffer }
         ensures loops { IfOk result (λ _. self.new.track.tally.next_loop ≡ self.old.track.tally.next_loop + drawn_count (part_of item.now ∷ [])) }

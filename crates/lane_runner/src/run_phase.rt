@@ -5,7 +5,7 @@ ghost use Rattle.kernel_model.specs.Phases.{part_of};
 ghost use Rattle.lane_runner.specs.Forking.{IsReady};
 ghost use Rattle.lane_runner.specs.Going.{CanGo, GoesPast, IsSameLog, site};
 ghost use Rattle.lane_runner.specs.Phase.{IsPhase};
-ghost use Rattle.lane_runner.specs.Teams.{EachTeamIn, MayFork};
+ghost use Rattle.lane_runner.specs.Teams.{EachTeamIn, MayForkTeam};
 
 use crate::frame::Frame;
 use crate::stop::{Halt, Stop};
@@ -45,7 +45,7 @@ impl<L: Log> Frame<L> {
         requires phase { IsPhase world.now.words.locks phase.now }
         requires counters { self.old.track.tally.next_loop + drawn_count (map part_of phase.now) ≤ world.now.chunks.loops }
         requires number { world.now.chunks.loops < 4294967296 }
-        requires runs { All (EachTeamIn (MayFork world.now (F.pre region.now) (F.post region.now) L.Log self.old.track.buffer)) phase.now }
+        requires runs { All (EachTeamIn (MayForkTeam world.now (F.pre region.now) (F.post region.now) L.Log self.old.track.buffer)) phase.now }
         ensures goes { GoesPast (bar_count (map part_of phase.now)) world.now (run_parts (site world.now) (map part_of phase.now)) self.old.locals.slots.items self.new.locals.slots.items self.old.track self.new.track result }
         ensures log { IsSameLog self.old.track.buffer self.new.track.buffer }
         ensures loops { IfOk result (λ _. self.new.track.tally.next_loop ≡ self.old.track.tally.next_loop + drawn_count (map part_of phase.now)) }

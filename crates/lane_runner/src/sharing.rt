@@ -11,9 +11,8 @@ ghost use Rattle.lane_runner.specs.Alone.{IsAlone};
 ghost use Rattle.lane_runner.specs.Drawing.{HasCounters, counters_of};
 ghost use Rattle.lane_runner.specs.Executing.{MayExecute};
 ghost use Rattle.lane_runner.specs.Going.{CanGo, Goes, IsSameLog, site};
-ghost use Rattle.lane_runner.specs.Teams.{EachTeam, MayFork};
+ghost use Rattle.lane_runner.specs.Teams.{EachTeam, MayForkTeam};
 
-use crate::body::total_of;
 use crate::frame::Frame;
 use crate::stop::{Halt, Stop};
 use crate::value::value;
@@ -25,7 +24,7 @@ use std::marker::Send;
 use std::sync::Wait;
 use std::thread::Threads;
 use sw_base::{ClosedLog, Log, Path};
-use task_place::Locals;
+use task_place::{Locals, total_of};
 
 impl<L: Log> Frame<L> {
     /// Executes the lane's chunks of a loop whose chunks are dealt in turn.
@@ -153,7 +152,7 @@ impl<L: Log> Frame<L> {
         requires can { CanGo world.now self.old.track }
         requires bounded { IsBoundedCode (tree.For slot (term_of from.now) (term_of to.now) schedule true line end (code_of body.now.stmts.items) Done) }
         requires alone { IsAlone world.now.words.locks self.old.track.hand.view.held (code_of body.now.stmts.items) }
-        requires runs { EachTeam (MayFork world.now (F.pre region.now) (F.post region.now) L.Log self.old.track.buffer) (code_of body.now.stmts.items) }
+        requires runs { EachTeam (MayForkTeam world.now (F.pre region.now) (F.post region.now) L.Log self.old.track.buffer) (code_of body.now.stmts.items) }
         requires counters { HasCounters (counters_of schedule) self.old.track.tally.next_loop world.now.chunks }
         ensures goes { Goes world.now (run (site world.now) (tree.For slot (term_of from.now) (term_of to.now) schedule true line end (code_of body.now.stmts.items) Done)) self.old.locals.slots.items self.new.locals.slots.items self.old.track self.new.track result }
         ensures log { IsSameLog self.old.track.buffer self.new.track.buffer }

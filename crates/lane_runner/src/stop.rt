@@ -17,39 +17,22 @@ pub enum Stop {
     Trouble(Trouble),
 }
 
-/// How many tasks may be below one.
-pub const TASK_LIMIT: usize = 65_535;
-
 /// Why a lane doesn't go on: it stops itself, or a region that it forked did.
 #[derive(Debug, Drop)]
 pub enum Halt {
-    /// A divisor is 0.
-    DivZero { line: u32 },
-    /// An index lies outside its array.
-    Index { line: u32 },
-    /// Its log has room for no more records.
-    LogFull { line: u32 },
+    /// Its own task stops so. For the number of tasks it does once the region that it forked last, at this line, has ended.
+    Own(Stop),
     /// In the region that it forked last, the task of this path stopped so.
     Region(Path, Stop),
-    /// The region that it forked last, at this line, ended, and too many tasks are below its own.
-    Tasks { line: u32 },
-    /// No memory was found, or a call on its log failed.
-    Trouble(Trouble),
 }
 
 impl From<Stop> for Halt {
     ghost use Rattle.std.specs.Prelude.{◌≡◌};
-    ghost use Rattle.lane_runner.specs.Going.{halt_for};
+    ghost use Rattle.lane_runner.specs.declared.stop.Halt.TheVariants.{Own};
 
-    ghost from_gives = { λ stop halt. halt ≡ halt_for stop };
+    ghost from_gives = { λ stop halt. halt ≡ Own stop };
 
     fn from(stop: Stop) -> Self {
-        match stop {
-            Stop::DivZero { line } => Halt::DivZero { line },
-            Stop::Index { line } => Halt::Index { line },
-            Stop::LogFull { line } => Halt::LogFull { line },
-            Stop::Tasks { line } => Halt::Tasks { line },
-            Stop::Trouble(trouble) => Halt::Trouble(trouble),
-        }
+        Halt::Own(stop)
     }
 }

@@ -1,6 +1,7 @@
 //! What a lane steps with: its hand on the shared words, and the buffer before its log. Each step has a place in the log before it
 //! is taken.
 ghost use Rattle.std.specs.Prelude.{◌≡◌, ◌+◌, ◌<◌, ◌≤◌, None, List, [], length, IfOk, OnOk, ℤ, Contains};
+ghost use Rattle.log_format.specs.Limit.{record_limit};
 ghost use Rattle.kernel_model.specs.Value as model;
 ghost use Rattle.kernel_model.specs.Value.{read};
 ghost use Rattle.kernel_model.specs.Changing.{kind_of};
@@ -11,7 +12,7 @@ ghost use Rattle.lane_runner.specs.Going.{CanGo, CanPut, Goes, GoesPast, IsWonLa
 ghost use Rattle.shared_words.specs.Handles.{Belongs, with_view};
 ghost use Rattle.kernel_syntax.specs.Program.{team_of, code_of};
 ghost use Rattle.kernel_syntax.specs.Tree as tree;
-ghost use Rattle.kernel_model.specs.Trace.{run, draw, log_limit};
+ghost use Rattle.kernel_model.specs.Trace.{run, draw};
 ghost use Rattle.lane_runner.specs.Children.{AreNewLogs};
 ghost use Rattle.lane_runner.specs.Forking.{RunsTeam};
 ghost use Rattle.lane_runner.specs.Drawing.{HasCounters};
@@ -22,12 +23,12 @@ ghost use Rattle.lane_runner.specs.Placing.{StandsIn, change_deed};
 ghost use Rattle.task_place.specs.Placing.{meant};
 
 use crate::children::children;
-use crate::stop::{Halt, Stop, TASK_LIMIT};
+use crate::stop::{Halt, Stop};
 use crate::world::World;
 use event_buffer::{Buffer, BufferFault};
 use kernel_model::Change;
 use kernel_syntax::{Team, fit};
-use log_format::{Kind, Record};
+use log_format::{Kind, TASK_LIMIT};
 use shared_words::{ChunkHand, Hand, Words};
 use std::alloc::Global;
 use std::marker::{Model, Send};
@@ -35,7 +36,7 @@ use std::mem;
 use std::sync::Wait;
 use std::thread::Threads;
 use sw_base::{ClosedLog, Log, Path};
-use task_place::{Element, Locals};
+use task_place::{Element, Locals, access, event};
 
 /// A lane's hand on the shared words, the buffer before its log, its hand on the counters of its team's loops, and the logs that the
 /// regions of its task handed on.
@@ -86,20 +87,6 @@ fn loop_after(next_loop: usize, drawn: u64, chunks: u64) -> usize
     }
 }
 
-// The record of an access.
-fn access(kind: Kind, element: &Element, line: u32, site: u16, value: u64) -> Record
-    ensures { result ≡ record { kind = kind; size = element.now.width; site = site; line = line; addr = element.now.addr; value = value } }
-{
-    Record {
-        kind,
-        size: element.width,
-        site,
-        line,
-        addr: element.addr,
-        value,
-    }
-}
-
 // Stores or adds a number, in one step.
 fn take_step(words: &Words, hand: &mut Hand, change: Change, word: usize, bits: u64)
     requires hand { Belongs hand.old words.now.table }
@@ -109,20 +96,6 @@ fn take_step(words: &Words, hand: &mut Hand, change: Change, word: usize, bits: 
     match change {
         Change::Store => words.store(hand, word, bits),
         Change::Update { minus: _ } => words.update(hand, word, bits),
-    }
-}
-
-// The record of a step that is no access.
-fn event(kind: Kind, line: u32, addr: u64, value: u64) -> Record
-    ensures { result ≡ event kind line addr value }
-{
-    Record {
-        kind,
-        size: 0,
-        site: 0,
-        line,
-        addr,
-        value,
     }
 }
 
@@ -198,7 +171,7 @@ impl<L: Log> Track<L> {
         self.ready(rt, alloc, line)?;
         let bits = world.words().load(&mut self.hand, element.word);
         let found = fit(bits.cast_signed(), element.width);
-        let event = access(Kind::Read, element, line, site, found.cast_unsigned());
+        let event = access(Kind::Read, element, line, site, found);
         self.buffer.put(&event);
         Ok(found)
     }
@@ -226,7 +199,7 @@ impl<L: Log> Track<L> {
         let bits = value.cast_unsigned();
         self.ready(rt, alloc, line)?;
         take_step(world.words(), &mut self.hand, change, element.word, bits);
-        let event = access(change.kind(), element, line, site, bits);
+        let event = access(change.kind(), element, line, site, value);
         self.buffer.put(&event);
         Ok(())
     }
@@ -361,7 +334,7 @@ impl<L: Log> Track<L> {
         self.ready(rt, alloc, line)?;
         let logs = match children(rt, alloc, &mut self.buffer, self.forked, span) {
             Ok(logs) => logs,
-            Err(trouble) => return Err(Halt::Trouble(trouble)),
+            Err(trouble) => return Err(Halt::Own(Stop::Trouble(trouble))),
         };
         let event = event(Kind::Region, line, 0, u64::from(span));
         self.buffer.put(&event);
@@ -412,7 +385,7 @@ impl<L: Log> Track<L> {
             return Err(Halt::Region(path, stop));
         }
         if self.done.len() > TASK_LIMIT {
-            return Err(Halt::Tasks { line: team.line });
+            return Err(Halt::Own(Stop::Tasks { line: team.line }));
         }
         Ok(())
     }
@@ -433,7 +406,7 @@ impl<L: Log> Track<L> {
         ensures within { IfOk result (λ number. number ≤ chunks) }
         ensures open { IfOk result (λ number. number < chunks → self.new.tally.next_loop ≡ self.old.tally.next_loop) }
         ensures closed { IfOk result (λ number. chunks ≤ number → self.new.tally.next_loop ≡ self.old.tally.next_loop + 1) }
-        ensures below { IfOk result (λ _. self.old.buffer.count < log_limit) }
+        ensures below { IfOk result (λ _. self.old.buffer.count < record_limit) }
         ensures count { IfOk result (λ _. self.new.buffer.count ≡ self.old.buffer.count + 1) }
         ensures log { IsSameLog self.old.buffer self.new.buffer }
     {

@@ -1,23 +1,23 @@
 //! The value of an expression.
-ghost use Rattle.std.specs.Prelude.{◌≡◌, List, ℤ, ok_or};
-ghost use Rattle.kernel_syntax.specs.Arithmetic.{applied};
+ghost use Rattle.std.specs.Prelude.{◌≡◌, List, ℤ};
 ghost use Rattle.kernel_syntax.specs.Bounds.{IsBoundedTerm, IsPlace};
 ghost use Rattle.kernel_syntax.specs.Program.{term_of};
 ghost use Rattle.kernel_model.specs.Value.{element_at, loaded, value};
 ghost use Rattle.lane_runner.specs.Compound.{IsCompound};
 ghost use Rattle.lane_runner.specs.Going.{CanGo, Goes, IsSameLog, lane_answer, site};
+ghost use Rattle.task_place.specs.Operands.{with_left};
 
 use crate::stop::Stop;
 use crate::track::Track;
 use crate::world::World;
 use kernel_model::negate;
-use kernel_syntax::{Expr, Op, apply};
+use kernel_syntax::Expr;
 use std::alloc::Global;
 use std::marker::Send;
 use std::sync::Wait;
 use std::thread::Threads;
 use sw_base::Log;
-use task_place::Locals;
+use task_place::{Locals, left_by, left_depth, operate};
 
 // Reads an element, after its index.
 fn load<L: Log, R: Threads + Wait + Copy + Send + 'static>(
@@ -42,11 +42,113 @@ fn load<L: Log, R: Threads + Wait + Copy + Send + 'static>(
     track.read(rt, alloc, world, &element, line, place)
 }
 
-/// The operation on two values, or the stop of a zero divisor.
-fn operate(op: Op, line: u32, left: i64, right: i64) -> Result<i64, Stop>
-    ensures { result ≡ ok_or (applied op left right) (Stop.DivZero line) }
+// The value of an operation from that of its left operand. What is no operation has this value itself.
+#[cycle(valuing)]
+#[inline(always)]
+fn top<L: Log, R: Threads + Wait + Copy + Send + 'static>(
+    rt: &R,
+    alloc: Global,
+    world: &World,
+    locals: &Locals,
+    track: &mut Track<L>,
+    expr: &Expr,
+    first: i64,
+) -> Result<i64, Stop>
+    requires can { CanGo world.now track.old }
+    requires bounded { IsBoundedTerm (term_of expr.now) }
+    ensures goes { Goes world.now (value (site world.now) (with_left (term_of expr.now) 1 first)) locals.now.slots.items locals.now.slots.items track.old track.new (lane_answer result) }
+    ensures log { IsSameLog track.old.buffer track.new.buffer }
+    ensures tally { track.new.tally ≡ track.old.tally }
 {
-    apply(op, left, right).ok_or(Stop::DivZero { line })
+    match expr {
+        Expr::Binary {
+            op,
+            line,
+            right,
+            ..
+        } => {
+            let second = value(rt, alloc, world, locals, track, right)?;
+            operate(*op, first, second, Stop::DivZero { line: *line })
+        }
+        _ => Ok(first),
+    }
+}
+
+// The value of an expression from that of its left operand so many levels below. It is found by halves, so that the depth of the calls grows as the
+// logarithm of the levels.
+#[cycle(valuing)]
+#[inline(never)]
+fn climb<L: Log, R: Threads + Wait + Copy + Send + 'static>(
+    rt: &R,
+    alloc: Global,
+    world: &World,
+    locals: &Locals,
+    track: &mut Track<L>,
+    expr: &Expr,
+    levels: usize,
+    first: i64,
+) -> Result<i64, Stop>
+    requires can { CanGo world.now track.old }
+    requires bounded { IsBoundedTerm (term_of expr.now) }
+    ensures goes { Goes world.now (value (site world.now) (with_left (term_of expr.now) levels first)) locals.now.slots.items locals.now.slots.items track.old track.new (lane_answer result) }
+    ensures log { IsSameLog track.old.buffer track.new.buffer }
+    ensures tally { track.new.tally ≡ track.old.tally }
+{
+    if levels == 0 {
+        return Ok(first);
+    }
+    if levels == 1 {
+        return top(rt, alloc, world, locals, track, expr, first);
+    }
+    let half = levels / 2;
+    let below = left_by(expr, half);
+    let middle = climb(rt, alloc, world, locals, track, below, levels - half, first)?;
+    climb(rt, alloc, world, locals, track, expr, half, middle)
+}
+
+// The value of an expression whose left operands may be as deep as its text is long.
+#[cycle(valuing)]
+#[inline(never)]
+fn chain<L: Log, R: Threads + Wait + Copy + Send + 'static>(
+    rt: &R,
+    alloc: Global,
+    world: &World,
+    locals: &Locals,
+    track: &mut Track<L>,
+    expr: &Expr,
+) -> Result<i64, Stop>
+    requires can { CanGo world.now track.old }
+    requires bounded { IsBoundedTerm (term_of expr.now) }
+    ensures goes { Goes world.now (value (site world.now) (term_of expr.now)) locals.now.slots.items locals.now.slots.items track.old track.new (lane_answer result) }
+    ensures log { IsSameLog track.old.buffer track.new.buffer }
+    ensures tally { track.new.tally ≡ track.old.tally }
+{
+    let levels = left_depth(expr);
+    let first = value(rt, alloc, world, locals, track, left_by(expr, levels))?;
+    climb(rt, alloc, world, locals, track, expr, levels, first)
+}
+
+// The value of a left operand.
+#[cycle(valuing)]
+#[inline(always)]
+fn operand<L: Log, R: Threads + Wait + Copy + Send + 'static>(
+    rt: &R,
+    alloc: Global,
+    world: &World,
+    locals: &Locals,
+    track: &mut Track<L>,
+    expr: &Expr,
+) -> Result<i64, Stop>
+    requires can { CanGo world.now track.old }
+    requires bounded { IsBoundedTerm (term_of expr.now) }
+    ensures goes { Goes world.now (value (site world.now) (term_of expr.now)) locals.now.slots.items locals.now.slots.items track.old track.new (lane_answer result) }
+    ensures log { IsSameLog track.old.buffer track.new.buffer }
+    ensures tally { track.new.tally ≡ track.old.tally }
+{
+    match expr {
+        Expr::Binary { .. } => chain(rt, alloc, world, locals, track, expr),
+        _ => value(rt, alloc, world, locals, track, expr),
+    }
 }
 
 // The value of an expression that loads or computes. It stands apart, so that `value` needs no room for what it keeps.
@@ -81,15 +183,9 @@ fn compound<L: Log, R: Threads + Wait + Copy + Send + 'static>(
             let negated = value(rt, alloc, world, locals, track, operand)?;
             Ok(negate(negated))
         }
-        Expr::Binary {
-            op,
-            line,
-            left,
-            right,
-        } => {
-            let first = value(rt, alloc, world, locals, track, left)?;
-            let second = value(rt, alloc, world, locals, track, right)?;
-            operate(*op, *line, first, second)
+        Expr::Binary { left, .. } => {
+            let first = operand(rt, alloc, world, locals, track, left)?;
+            top(rt, alloc, world, locals, track, expr, first)
         }
         Expr::Number(_) => unreachable!(),
         Expr::Slot(_) => unreachable!(),

@@ -8,17 +8,14 @@ ghost use Rattle.task_place.specs.Placing.{meant};
 use kernel_syntax::Array;
 use shared_words::{Chunks, Words};
 use std::marker::Model;
-use task_place::{Element, element_in};
+use task_place::{Element, TaskPlace};
 
-/// Where a lane runs: the kernel's arrays, the shared words and the team's counters, and the lane's place in its team. Each element of an array is a word
-/// of its own.
+/// Where a lane runs: the place of its task, the shared words, and the team's counters. Each element of an array is a word of its own.
 #[derive(Drop)]
 pub struct World<'a> {
-    arrays: &'a [Array],
+    place: TaskPlace<'a>,
     words: &'a Words,
     chunks: &'a Chunks,
-    lane: u16,
-    span: u16,
 }
 
 impl<'a> Model for World<'a> {
@@ -26,9 +23,9 @@ impl<'a> Model for World<'a> {
 
     ghost Value = { WorldValue };
 
-    ghost view = { λ w. record { arrays = w.arrays.now; words = w.words.now; chunks = w.chunks.now; lane = w.lane; span = w.span } };
+    ghost view = { λ w. record { arrays = w.place.arrays; words = w.words.now; chunks = w.chunks.now; lane = w.place.lane; span = w.place.span } };
 
-    ghost invariant = { λ w. IsWorld (record { arrays = w.arrays.now; words = w.words.now; chunks = w.chunks.now; lane = w.lane; span = w.span }) };
+    ghost invariant = { λ w. IsWorld (record { arrays = w.place.arrays; words = w.words.now; chunks = w.chunks.now; lane = w.place.lane; span = w.place.span }) };
 }
 
 impl<'a> World<'a> {
@@ -43,11 +40,9 @@ impl<'a> World<'a> {
         ensures { result ≡ record { arrays = arrays.now; words = words.now; chunks = chunks.now; lane = lane; span = span } }
     {
         World {
-            arrays,
+            place: TaskPlace::new(arrays, lane, span),
             words,
             chunks,
-            lane,
-            span,
         }
     }
 
@@ -55,7 +50,7 @@ impl<'a> World<'a> {
     pub fn lane(&self) -> u16
         ensures { result ≡ self.now.lane }
     {
-        self.lane
+        self.place.lane()
     }
 
     /// How many lanes the team has.
@@ -63,7 +58,7 @@ impl<'a> World<'a> {
         ensures span { result ≡ self.now.span }
         ensures within { self.now.lane < result }
     {
-        self.span
+        self.place.span()
     }
 
     /// The shared words.
@@ -85,6 +80,6 @@ impl<'a> World<'a> {
         ensures is { MatchOption result (element_at self.now.arrays array index ≡ None) (λ e. element_at self.now.arrays array index ≡ Some (meant e)) }
         ensures stands { IfSome result (StandsIn self.now) }
     {
-        element_in(self.arrays, array, index)
+        self.place.element(array, index)
     }
 }

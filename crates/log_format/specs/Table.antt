@@ -18,57 +18,36 @@ pub record RecordFits (r : Record) : Type 0 where
   pub addr : r.addr < 2 ^ 64
   pub value : r.value < 2 ^ 64
 
--- how many bytes an access has
-abbrev pub IsAccessSize : ℕ → Type 0
-IsAccessSize = IsWidth
-
 -- an access has 1, 2, 4 or 8 bytes, and nothing else has any
 abbrev pub HasSize : Kind → ℕ → Type 0
-HasSize Read n = IsAccessSize n
-HasSize Write n = IsAccessSize n
-HasSize Lock n = n ≡ 0
-HasSize Unlock n = n ≡ 0
-HasSize Barrier n = n ≡ 0
-HasSize Region n = n ≡ 0
-HasSize Chunk n = n ≡ 0
-HasSize End n = n ≡ 0
-HasSize Update n = IsAccessSize n
+HasSize Read n = IsWidth n
+HasSize Write n = IsWidth n
+HasSize Update n = IsWidth n
+HasSize _ n = n ≡ 0
 
 -- an access ends at 2^48 or before; a mutex's number is below 2^16
 abbrev pub HasAddress : Kind → Record → Type 0
 HasAddress Read r = r.addr + r.size ≤ 2 ^ 48
 HasAddress Write r = r.addr + r.size ≤ 2 ^ 48
+HasAddress Update r = r.addr + r.size ≤ 2 ^ 48
 HasAddress Lock r = r.addr < 2 ^ 16
 HasAddress Unlock r = r.addr < 2 ^ 16
-HasAddress Barrier r = Unit {0}
-HasAddress Region r = Unit {0}
-HasAddress Chunk r = Unit {0}
-HasAddress End r = Unit {0}
-HasAddress Update r = r.addr + r.size ≤ 2 ^ 48
+HasAddress _ r = Unit {0}
 
 -- a region has 1 to 64 lanes
 abbrev pub SpanIsTabled : Kind → Record → Type 0
-SpanIsTabled Read r = Unit {0}
-SpanIsTabled Write r = Unit {0}
-SpanIsTabled Lock r = Unit {0}
-SpanIsTabled Unlock r = Unit {0}
-SpanIsTabled Barrier r = Unit {0}
 SpanIsTabled Region r = (1 ≤ r.value) × (r.value ≤ 64)
-SpanIsTabled Chunk r = Unit {0}
-SpanIsTabled End r = Unit {0}
-SpanIsTabled Update r = Unit {0}
+SpanIsTabled _ r = Unit {0}
 
 -- what a kind doesn't use is 0, and a chunk's number is at most how many there are
 abbrev pub HasNothingElse : Kind → Record → Type 0
-HasNothingElse Read r = Unit {0}
-HasNothingElse Write r = Unit {0}
 HasNothingElse Lock r = (r.site ≡ 0) × (r.value ≡ 0)
 HasNothingElse Unlock r = (r.site ≡ 0) × (r.value ≡ 0)
 HasNothingElse Barrier r = (r.site ≡ 0) × (r.addr ≡ 0) × (r.value ≡ 0)
 HasNothingElse Region r = (r.site ≡ 0) × (r.addr ≡ 0)
 HasNothingElse Chunk r = (r.site ≡ 0) × (r.addr ≤ r.value)
 HasNothingElse End r = (r.site ≡ 0) × (r.addr ≡ 0) × (r.value ≡ 0)
-HasNothingElse Update r = Unit {0}
+HasNothingElse _ r = Unit {0}
 
 -- a record passes the test that the fault names
 abbrev pub PassesTable : Format → Record → Why → Type 0

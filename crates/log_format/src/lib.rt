@@ -13,4 +13,4 @@ mod table;
 pub use coding::{decode, decode_as, decode_old, encode};
 pub use format::{FORMAT, Format};
 pub use laws::{first_is_second, logged_once, spelled_once};
-pub use record::{Kind, RECORD_LIMIT, RECORD_SIZE, Record, Why};
+pub use record::{Kind, RECORD_LIMIT, RECORD_SIZE, Record, TASK_LIMIT, Why};

@@ -4,6 +4,9 @@ pub const RECORD_SIZE: usize = 24;
 /// How many records a log has at most.
 pub const RECORD_LIMIT: u32 = 4_194_304;
 
+/// How many tasks may be below the root of a run.
+pub const TASK_LIMIT: usize = 65_535;
+
 /// What a task did.
 #[derive(Clone, Copy, PartialEq, Eq)]
 pub enum Kind {

@@ -17,7 +17,7 @@ use Rattle.race_laws.proofs.Listings.{begins_none}
 use Rattle.race_laws.proofs.RowSpelling.{length-row}
 use Rattle.race_laws.proofs.IndexPlaces.{used-raws_of, row_first, old_first as old_first_place, header_first as header_first_place}
 use Rattle.log_index.specs.declared.row.IndexAnswer.TheVariants.{Bad}
-use Rattle.log_index.specs.Rows.{OneMore, ReadsRow, StopsAt, SpellsFirstRows, IsFirstBadRow}
+use Rattle.log_index.specs.Rows.{OneMore, ReadsRow, FailsAt, SpellsFirstRows, IsFirstBadRow}
 use Rattle.race_model.specs.Row.{row_path}
 
 -- the end of rows that are no whole listing
@@ -92,7 +92,7 @@ module _ (format : Format) (bytes rest : List ℕ) (parts : bytes ≡ index_head
   whole_parts rows left is =
       parts ∙ ap (λ (bs : List ℕ). index_header format ++ bs) is ∙ sym (append_assoc (index_header format) (flat_map row_spelling (map raw_of rows)) left)
 
-  pub stops_first : (n : ℕ) (why : IndexWhy) → StopsAt rest n why → IsFirstBadRow format bytes n why
+  pub stops_first : (n : ℕ) (why : IndexWhy) → FailsAt rest n why → IsFirstBadRow format bytes n why
   stops_first n why stops files dir held =
       subst (λ (m : ℕ). IsFirstBadIndexPlace format files dir (bad_row m why)) (sym stops.number)
       (row_first files dir bytes held stops.before stops.rest stops.good (whole_parts stops.before stops.rest stops.parts) why stops.first)

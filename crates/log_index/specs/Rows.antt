@@ -26,7 +26,7 @@ pub record AddsRow (before : List Row) (row : Row) (rest : List ℕ) : Type 0 wh
   pub parts : rest ≡ row_spelling (raw_of row) ++ drop 48 rest
 
 -- what is left of an index after good rows has a first fault, at the row of this number
-pub record StopsAt (bytes : List ℕ) (n : ℕ) (why : IndexWhy) : Type 0 where
+pub record FailsAt (bytes : List ℕ) (n : ℕ) (why : IndexWhy) : Type 0 where
   pub before : List Row
   pub rest : List ℕ
   pub good : AreFirstRows before
@@ -46,7 +46,7 @@ pub record OneMore (before now : List Row) (rest : List ℕ) : Type 0 where
   pub adds : AddsRow before row rest
 
 -- the window went on by a row
-pub record Grows (before now : List Row) (old new : Window) : Type 0 where
+pub record HasNextRow (before now : List Row) (old new : Window) : Type 0 where
   pub good : AreFirstRows now
   pub count : length now ≡ length before + 1
   pub place : new.place ≡ old.place + 48

@@ -7,7 +7,7 @@ ghost use Rattle.race_model.specs.declared.why.IndexWhy.{IndexWhy};
 ghost use Rattle.race_model.specs.Row.{raw_of, used};
 ghost use Rattle.race_model.specs.IndexFault.{HasDepth, HasRecords, AreFirstRows, AreRows, FailsIndexFirst, max_rows};
 ghost use Rattle.log_index.specs.Answers.{IsOfBytes};
-ghost use Rattle.log_index.specs.Rows.{raw_of_fields, AddsRow, OneMore, Grows, ReadsRow, StopsAt, SpellsFirstRows, SpellsRows, IsFirstBadRow};
+ghost use Rattle.log_index.specs.Rows.{raw_of_fields, AddsRow, OneMore, HasNextRow, ReadsRow, FailsAt, SpellsFirstRows, SpellsRows, IsFirstBadRow};
 
 use crate::fields::{Fields, fields_of, path_of};
 use crate::listing::is_whole;
@@ -99,7 +99,7 @@ fn read_row<F: Folder>(
 ) -> Result<bool, IndexAnswer>
     requires good { AreFirstRows rows.old.items }
     requires place { window.old.place ≡ 8 + 48 * length rows.old.items }
-    ensures grows { IfOk result (λ more. IsTrue more → Grows rows.old.items rows.new.items window.old window.new) }
+    ensures grows { IfOk result (λ more. IsTrue more → HasNextRow rows.old.items rows.new.items window.old window.new) }
     ensures row { IfOk result (λ more. IsTrue more → WhereTold (F.state folder.old).content (λ c. Shows window.old (file_of c name.now)
         → ReadsRow (file_of c name.now) rows.old.items rows.new.items window.old window.new)) }
     ensures ends { IfOk result (λ more. IsFalse more → rows.new.items ≡ rows.old.items) }
@@ -132,7 +132,7 @@ fn first_rows<F: Folder>(
     ensures rows { IfOk result (λ rows. WhereTold (F.state folder.old).content (λ c. Shows window.old (file_of c name.now)
         → SpellsFirstRows (drop 8 (file_of c name.now)) rows.items)) }
     ensures bad { IfErr result (λ answer. (n : ℕ) (why : IndexWhy) → answer ≡ IndexAnswer.Bad n why
-        → WhereTold (F.state folder.old).content (λ c. Shows window.old (file_of c name.now) → StopsAt (drop 8 (file_of c name.now)) n why)) }
+        → WhereTold (F.state folder.old).content (λ c. Shows window.old (file_of c name.now) → FailsAt (drop 8 (file_of c name.now)) n why)) }
     ensures there { IsErrOf result IndexAnswer.NoIndex → ⊥ }
 
     ensures reads { OnlyReads F.Folder folder.old folder.new (IsErrOf result IndexAnswer.ReadFault) }

@@ -3,6 +3,7 @@ use Rattle.std.proofs.Common.{◌≡◌, ◌⊎◌, inl, inr, refl, ap, sym, ◌
 use Rattle.std.specs.Prelude.{map, option_map, Contains, is_some}
 use Rattle.std.proofs.lemmas.List.{length_push, length-take-le, take-take, take-append-le, take_all, same_from_push}
 use Rattle.std.proofs.lemmas.Option.{same_Some, slice_get-map, slice_get_within}
+use Rattle.log_format.specs.Limit.{record_limit}
 use Rattle.sw_base.specs.declared.path.Step.{Step}
 use Rattle.log_format.specs.declared.format.TheConstants.{FORMAT}
 use Rattle.log_format.specs.declared.record.Record.{Record}
@@ -24,7 +25,7 @@ use Rattle.race_laws.proofs.ListedOnce.{first_path, logs_at, next_path, next_sha
 use Rattle.race_model.proofs.TraceLogs.{all_at, find_task}
 use Rattle.kernel_syntax.specs.Program.{Program}
 use Rattle.kernel_model.specs.State.{Fork}
-use Rattle.kernel_model.specs.Trace.{Start, log_limit}
+use Rattle.kernel_model.specs.Trace.{Start}
 use Rattle.kernel_model.specs.Folder.{own_trace, root_start, lane_start, start_at, IsTraced, IsTracedTask, IsTracedFolder, paths_of}
 use Rattle.kernel_rules.proofs.DistinctPaths.{listed_once}
 use Rattle.kernel_rules.proofs.EndedTraces.{whole_trace}
@@ -182,11 +183,11 @@ module _ (program : Program) (tasks : Trace) (rules : KeepsRules FORMAT tasks) w
     -- its log, read by its row
     pub log_of_row : (files : Files) (dir : List ℕ) (kept' : List (List Fork)) (answer : Option ℕ) → HoldsLogs FORMAT files dir tasks → (row : Row) → row ≡ row_of task
         → ((logs : Logs) → KeepsAllForks program logs kept row.path → IsWholeLog FORMAT files dir row.path (logs row.path) → row.records ≡ length (logs row.path) → HasEnd (logs row.path)
-        → length (logs row.path) ≤ log_limit → ComparesTask program logs row.path kept kept' answer)
+        → length (logs row.path) ≤ record_limit → ComparesTask program logs row.path kept kept' answer)
         → ComparesTask program logs task.path kept kept' answer
     log_of_row files dir kept' answer holds row is compares =
         let there = subst (λ (r : Row). (logs : Logs) → KeepsAllForks program logs kept r.path → IsWholeLog FORMAT files dir r.path (logs r.path) → r.records ≡ length (logs r.path) → HasEnd (logs r.path)
-        → length (logs r.path) ≤ log_limit → ComparesTask program logs r.path kept kept' answer) is compares in
+        → length (logs r.path) ≤ record_limit → ComparesTask program logs r.path kept kept' answer) is compares in
         let whole = all_at (λ (t : TaskLog). IsWholeLog FORMAT files dir t.path t.records) tasks index task holds found in
         let row_is = row_all tasks index task rules.rows.each found in
         let limit = row_is.records.limit in

@@ -5,7 +5,7 @@ use Rattle.log_format.specs.declared.record.Record.{Record}
 use Rattle.kernel_model.specs.State.{State, Outcome, Gives, Stops, Wants, and_then, after, state_of}
 use Rattle.kernel_model.specs.Growth.{Grows}
 use Rattle.log_replay.specs.Differing.{DiffersAt}
-use Rattle.log_replay.specs.Following.{Standing, IsAt, here, Strays, IsOff, Ends, Follows}
+use Rattle.log_replay.specs.Following.{Standing, HasReadTo, here, Strays, IsOff, Ends, FollowsPart}
 use Rattle.log_replay.specs.declared.stray.Stray.{Stray}
 use Rattle.log_replay.specs.declared.stray.Stray.TheVariants as stray
 
@@ -63,38 +63,38 @@ after_is (Gives a s) next = refl
 after_is (Stops why line s) next = refl
 after_is (Wants s) next = refl
 
-pub follows_same : {A : Type 0} (told : FolderState) (m n : State → Outcome A) (old new : Standing) (r : Result A Stray) → ((s : State) → n s ≡ m s) → Follows told m old new r → Follows told n old new r
+pub follows_same : {A : Type 0} (told : FolderState) (m n : State → Outcome A) (old new : Standing) (r : Result A Stray) → ((s : State) → n s ≡ m s) → FollowsPart told m old new r → FollowsPart told n old new r
 follows_same {A = A} told m n old new r same follows = λ log done rest at. subst (λ (o : Outcome A). Ends told log o new r) (sym (same (here old done rest))) (follows log done rest at)
 
-pub follows_nothing : {A : Type 0} (told : FolderState) (a : A) (x : Standing) → Follows told (λ s. Gives a s) x x (Ok a)
+pub follows_nothing : {A : Type 0} (told : FolderState) (a : A) (x : Standing) → FollowsPart told (λ s. Gives a s) x x (Ok a)
 follows_nothing told a x = λ log done rest at. record { done = done; rest = rest; at = at; gives = refl }
 
 module _ {A B : Type 0} (told : FolderState) (m : State → Outcome A) (next : A → State → Outcome B) (old : Standing) where
-  pub follows_then : (told' : FolderState) → told' ≡ told → (a : A) (mid new : Standing) (r : Result B Stray) → Follows told m old mid (Ok a) → Follows told' (next a) mid new r
-      → Follows told (λ s. and_then (m s) next) old new r
+  pub follows_then : (told' : FolderState) → told' ≡ told → (a : A) (mid new : Standing) (r : Result B Stray) → FollowsPart told m old mid (Ok a) → FollowsPart told' (next a) mid new r
+      → FollowsPart told (λ s. and_then (m s) next) old new r
   follows_then told' same a mid new r first second = λ log done rest at.
       let one = first log done rest at in
       subst (λ (o : Outcome A). Ends told log (and_then o next) new r) (sym one.gives)
       (subst (λ (t : FolderState). Ends t log (next a (here mid one.done one.rest)) new r) same
-      (second log one.done one.rest (subst (λ (t : FolderState). IsAt t log one.done one.rest mid) (sym same) one.at)))
+      (second log one.done one.rest (subst (λ (t : FolderState). HasReadTo t log one.done one.rest mid) (sym same) one.at)))
 
-  pub follows_stop : (new new' : Standing) (e : Stray) → ((a : A) (s : State) → Grows s (state_of (next a s))) → Follows told m old new (Err e) → Follows told (λ s. and_then (m s) next) old new' (Err e)
+  pub follows_stop : (new new' : Standing) (e : Stray) → ((a : A) (s : State) → Grows s (state_of (next a s))) → FollowsPart told m old new (Err e) → FollowsPart told (λ s. and_then (m s) next) old new' (Err e)
   follows_stop new new' (stray.Differs number) grows follows = λ log done rest at. off_then log number (m (here old done rest)) next grows (follows log done rest at)
   follows_stop new new' stray.ReadFault grows follows = λ log done rest at. tt
   follows_stop new new' stray.Memory grows follows = λ log done rest at. tt
 
 module _ (told : FolderState) (m next : State → Outcome (Unit {0})) (old : Standing) where
-  pub then_after : (told' : FolderState) → told' ≡ told → (mid new : Standing) (r : Result (Unit {0}) Stray) → Follows told m old mid (Ok tt) → Follows told' next mid new r
-      → Follows told (λ s. after (m s) next) old new r
+  pub then_after : (told' : FolderState) → told' ≡ told → (mid new : Standing) (r : Result (Unit {0}) Stray) → FollowsPart told m old mid (Ok tt) → FollowsPart told' next mid new r
+      → FollowsPart told (λ s. after (m s) next) old new r
   then_after told' same mid new r first second =
       follows_same told (λ s. and_then (m s) (λ u t. next t)) (λ s. after (m s) next) old new r (λ s. after_is (m s) next)
       (follows_then told m (λ u t. next t) old told' same tt mid new r first second)
 
-  pub stop_after : (new new' : Standing) (e : Stray) → ((s : State) → Grows s (state_of (next s))) → Follows told m old new (Err e) → Follows told (λ s. after (m s) next) old new' (Err e)
+  pub stop_after : (new new' : Standing) (e : Stray) → ((s : State) → Grows s (state_of (next s))) → FollowsPart told m old new (Err e) → FollowsPart told (λ s. after (m s) next) old new' (Err e)
   stop_after new new' e grows follows =
       follows_same told (λ s. and_then (m s) (λ u t. next t)) (λ s. after (m s) next) old new' (Err e) (λ s. after_is (m s) next)
       (follows_stop told m (λ u t. next t) old new new' e (λ u s. grows s) follows)
 
 -- the folder tells the same later
-pub retold : {A : Type 0} (told told' : FolderState) (part : State → Outcome A) (old new : Standing) (r : Result A Stray) → told' ≡ told → Follows told' part old new r → Follows told part old new r
-retold {A = A} told told' part old new r same follows = subst (λ (t : FolderState). Follows {A = A} t part old new r) same follows
+pub retold : {A : Type 0} (told told' : FolderState) (part : State → Outcome A) (old new : Standing) (r : Result A Stray) → told' ≡ told → FollowsPart told' part old new r → FollowsPart told part old new r
+retold {A = A} told told' part old new r same follows = subst (λ (t : FolderState). FollowsPart {A = A} t part old new r) same follows

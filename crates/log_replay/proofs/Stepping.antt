@@ -3,19 +3,21 @@ use Rattle.std.proofs.Common.{◌≡◌, inl, inr, refl, ap, sym, ◌∙◌, sub
 use Rattle.std.specs.List.{cons_option}
 use Rattle.std.specs.Prelude.{IsErrAnd}
 use Rattle.std.proofs.lemmas.Result.{err_from_is_err_and}
+use Rattle.log_format.specs.Limit.{record_limit}
 use Rattle.sw_base.specs.Environment.{Content, FolderState}
 use Rattle.log_format.specs.declared.record.Record.{Record}
 use Rattle.log_format.specs.declared.record.Kind.{Kind}
 use Rattle.log_format.specs.declared.record.Kind.TheVariants as kind
 use Rattle.log_reader.specs.Reading.{Reading, StandsBefore, GivesNext}
 use Rattle.log_format.specs.Fitting.{fitted}
-use Rattle.kernel_model.specs.State.{State, Fork, Stop, Outcome, Gives, Stops, put, event, from_bits, value_read, number_drawn, reads_of, chunks_of}
+use Rattle.kernel_model.specs.State.{State, Fork, Outcome, Gives, Stops, put, event, from_bits, value_read, number_drawn, reads_of, chunks_of}
+use Rattle.kernel_model.specs.declared.stop.StopWhy.{StopWhy}
 use Rattle.kernel_model.specs.Effect.{state_with}
-use Rattle.kernel_model.specs.Trace.{draw, log_limit}
+use Rattle.kernel_model.specs.Trace.{draw}
 use Rattle.kernel_model.specs.Value.{Element, access, read}
 use Rattle.kernel_model.proofs.Equations.{put-room, read-room, read-wants, draw-room, draw-wants}
 use Rattle.log_replay.specs.Differing.{DiffersAt}
-use Rattle.log_replay.specs.Following.{Standing, HasEnd, IsAt, here, Took, Takes, IsMark, Strays, IsOff, Reached, Ends, Follows}
+use Rattle.log_replay.specs.Following.{Standing, HasEnd, HasReadTo, here, Took, TakesNext, IsMark, Strays, IsOff, Reached, Ends, FollowsPart}
 use Rattle.log_replay.specs.declared.stray.Stray.{Stray}
 use Rattle.log_replay.specs.declared.stray.Stray.TheVariants as stray
 
@@ -62,20 +64,20 @@ state_is : (slots slots' : List ℤ) (records : List Record) (forks forks' : Lis
     → state_with slots records forks room reads chunks ≡ state_with slots' records forks' room reads' chunks'
 state_is slots slots' records forks forks' room reads reads' chunks chunks' a b c d = rw (a, b, c, d) refl
 
-module _ (told : FolderState) (log done rest : List Record) (x : Standing) (at : IsAt told log done rest x) (r : Record) (y : Standing) (took : Took told rest r x y) where
+module _ (told : FolderState) (log done rest : List Record) (x : Standing) (at : HasReadTo told log done rest x) (r : Record) (y : Standing) (took : Took told rest r x y) where
   pub is_log : log ≡ done ++ r ∷ took.others
   is_log = at.parts ∙ ap (λ (l : List Record). done ++ l) took.rest_is
 
   size : length done + suc (length took.others) ≡ length log
   size = sym (ap length is_log ∙ length-append done (r ∷ took.others))
 
-  pub room_left : log_limit - length done ≡ suc (log_limit - length (done ++ r ∷ []))
+  pub room_left : record_limit - length done ≡ suc (record_limit - length (done ++ r ∷ []))
   room_left = omega (arith, size, at.fits, length-append done (r ∷ []))
 
   pub number_is : y.count ≡ length done + 1
   number_is = omega (arith, took.count, at.count, size, at.fits)
 
-  at_next : (r.kind ≡ kind.End → ⊥) → IsAt told log (done ++ r ∷ []) took.others y
+  at_next : (r.kind ≡ kind.End → ⊥) → HasReadTo told log (done ++ r ∷ []) took.others y
   at_next other = record {
     content = at.content;
     is_told = at.is_told;
@@ -120,9 +122,9 @@ module _ (told : FolderState) (log done rest : List Record) (x : Standing) (at :
         rest = took.others;
         at = at_next (no_end r.kind mark');
         gives =
-            put-room due (here x done rest) (log_limit - length (done ++ r ∷ [])) room_left
-            ∙ ap (λ (q : Record). Gives tt (state_with x.slots (done ++ q ∷ []) x.forks (log_limit - length (done ++ r ∷ [])) (reads_of rest) (chunks_of rest))) (sym is)
-            ∙ ap (λ (s : State). Gives tt s) (state_is x.slots y.slots (done ++ r ∷ []) x.forks y.forks (log_limit - length (done ++ r ∷ [])) (reads_of rest) (reads_of took.others) (chunks_of rest) (chunks_of took.others)
+            put-room due (here x done rest) (record_limit - length (done ++ r ∷ [])) room_left
+            ∙ ap (λ (q : Record). Gives tt (state_with x.slots (done ++ q ∷ []) x.forks (record_limit - length (done ++ r ∷ [])) (reads_of rest) (chunks_of rest))) (sym is)
+            ∙ ap (λ (s : State). Gives tt s) (state_is x.slots y.slots (done ++ r ∷ []) x.forks y.forks (record_limit - length (done ++ r ∷ [])) (reads_of rest) (reads_of took.others) (chunks_of rest) (chunks_of took.others)
             took.slots took.forks
             (ap reads_of took.rest_is ∙ reads_cons r took.others None (no_read r.kind r.value mark'))
             (ap chunks_of took.rest_is ∙ chunks_cons r took.others None (no_draw r.kind r.addr mark')));
@@ -130,7 +132,7 @@ module _ (told : FolderState) (log done rest : List Record) (x : Standing) (at :
 
   pub put_strays : (due : Record) (number : ℕ) → (r ≡ due → ⊥) → number ≡ y.count → IsOff log number (put due (here x done rest))
   put_strays due number apart is =
-      subst (IsOff log number) (sym (put-room due (here x done rest) (log_limit - length (done ++ r ∷ [])) room_left))
+      subst (IsOff log number) (sym (put-room due (here x done rest) (record_limit - length (done ++ r ∷ [])) room_left))
       (strays_next due [] number (λ same. apart (sym same)) is)
 
   -- ---- reads
@@ -148,9 +150,9 @@ module _ (told : FolderState) (log done rest : List Record) (x : Standing) (at :
         rest = took.others;
         at = at_next (λ end. cc (sym read' ∙ end));
         gives =
-            read-room e site line (here x done rest) (log_limit - length (done ++ r ∷ [])) (from_bits r.value) (reads_of took.others) room_left (read_kind read')
-            ∙ ap (λ (q : Record). Gives v (state_with x.slots (done ++ q ∷ []) x.forks (log_limit - length (done ++ r ∷ [])) (reads_of took.others) (chunks_of rest))) (sym is)
-            ∙ ap (λ (s : State). Gives v s) (state_is x.slots y.slots (done ++ r ∷ []) x.forks y.forks (log_limit - length (done ++ r ∷ [])) (reads_of took.others) (reads_of took.others) (chunks_of rest) (chunks_of took.others)
+            read-room e site line (here x done rest) (record_limit - length (done ++ r ∷ [])) (from_bits r.value) (reads_of took.others) room_left (read_kind read')
+            ∙ ap (λ (q : Record). Gives v (state_with x.slots (done ++ q ∷ []) x.forks (record_limit - length (done ++ r ∷ [])) (reads_of took.others) (chunks_of rest))) (sym is)
+            ∙ ap (λ (s : State). Gives v s) (state_is x.slots y.slots (done ++ r ∷ []) x.forks y.forks (record_limit - length (done ++ r ∷ [])) (reads_of took.others) (reads_of took.others) (chunks_of rest) (chunks_of took.others)
             took.slots took.forks refl
             (ap chunks_of took.rest_is ∙ chunks_cons r took.others None (ap (λ (k : Kind). number_drawn k r.addr) read')));
       }
@@ -164,9 +166,9 @@ module _ (told : FolderState) (log done rest : List Record) (x : Standing) (at :
 
     read_off : (reads : List ℤ) → reads_of rest ≡ reads → IsOff log number (read e site line (here x done rest))
     read_off [] none =
-        subst (IsOff log number) (sym (read-wants e site line (here x done rest) (log_limit - length (done ++ r ∷ [])) room_left none)) (lacks_next number is)
+        subst (IsOff log number) (sym (read-wants e site line (here x done rest) (record_limit - length (done ++ r ∷ [])) room_left none)) (lacks_next number is)
     read_off (v ∷ reads) prefix =
-        subst (IsOff log number) (sym (read-room e site line (here x done rest) (log_limit - length (done ++ r ∷ [])) v reads room_left prefix))
+        subst (IsOff log number) (sym (read-room e site line (here x done rest) (record_limit - length (done ++ r ∷ [])) v reads room_left prefix))
         (strays_next (access kind.Read e site line (fitted v e.width)) [] number (same_read v reads prefix) is)
 
     pub read_strays : IsOff log number (read e site line (here x done rest))
@@ -185,9 +187,9 @@ module _ (told : FolderState) (log done rest : List Record) (x : Standing) (at :
         rest = took.others;
         at = at_next (λ end. cc (sym draw' ∙ end));
         gives =
-            draw-room line n (here x done rest) (log_limit - length (done ++ r ∷ [])) r.addr (chunks_of took.others) room_left (draw_kind draw')
-            ∙ ap (λ (q : Record). Gives r.addr (state_with x.slots (done ++ q ∷ []) x.forks (log_limit - length (done ++ r ∷ [])) (reads_of rest) (chunks_of took.others))) (sym is)
-            ∙ ap (λ (s : State). Gives r.addr s) (state_is x.slots y.slots (done ++ r ∷ []) x.forks y.forks (log_limit - length (done ++ r ∷ [])) (reads_of rest) (reads_of took.others) (chunks_of took.others) (chunks_of took.others)
+            draw-room line n (here x done rest) (record_limit - length (done ++ r ∷ [])) r.addr (chunks_of took.others) room_left (draw_kind draw')
+            ∙ ap (λ (q : Record). Gives r.addr (state_with x.slots (done ++ q ∷ []) x.forks (record_limit - length (done ++ r ∷ [])) (reads_of rest) (chunks_of took.others))) (sym is)
+            ∙ ap (λ (s : State). Gives r.addr s) (state_is x.slots y.slots (done ++ r ∷ []) x.forks y.forks (record_limit - length (done ++ r ∷ [])) (reads_of rest) (reads_of took.others) (chunks_of took.others) (chunks_of took.others)
             took.slots took.forks
             (ap reads_of took.rest_is ∙ reads_cons r took.others None (ap (λ (k : Kind). value_read k r.value) draw')) refl);
       }
@@ -201,9 +203,9 @@ module _ (told : FolderState) (log done rest : List Record) (x : Standing) (at :
 
     draw_off : (chunks : List ℕ) → chunks_of rest ≡ chunks → IsOff log number (draw line n (here x done rest))
     draw_off [] none =
-        subst (IsOff log number) (sym (draw-wants line n (here x done rest) (log_limit - length (done ++ r ∷ [])) room_left none)) (lacks_next number is)
+        subst (IsOff log number) (sym (draw-wants line n (here x done rest) (record_limit - length (done ++ r ∷ [])) room_left none)) (lacks_next number is)
     draw_off (q ∷ chunks) prefix =
-        subst (IsOff log number) (sym (draw-room line n (here x done rest) (log_limit - length (done ++ r ∷ [])) q chunks room_left prefix))
+        subst (IsOff log number) (sym (draw-room line n (here x done rest) (record_limit - length (done ++ r ∷ [])) q chunks room_left prefix))
         (strays_next (event kind.Chunk line (min q n) n) [] number (same_draw q chunks prefix) is)
 
     pub draw_strays : IsOff log number (draw line n (here x done rest))
@@ -212,7 +214,7 @@ module _ (told : FolderState) (log done rest : List Record) (x : Standing) (at :
 -- ---- the end of what was read
 
 -- where a part stops, the log goes on
-pub stops_off : (A : Type 0) (told : FolderState) (log done rest : List Record) (x : Standing) → IsAt told log done rest x → (number : ℕ) → number ≡ min (x.count + 1) 4294967295 → (why : Stop) (line : ℕ)
+pub stops_off : (A : Type 0) (told : FolderState) (log done rest : List Record) (x : Standing) → HasReadTo told log done rest x → (number : ℕ) → number ≡ min (x.count + 1) 4294967295 → (why : StopWhy) (line : ℕ)
     → IsOff {A = A} log number (Stops why line (here x done rest))
 stops_off A told log done [] x at number is why line = absurd at.ahead
 stops_off A told log done (r ∷ rest) x at number is why line = record {
@@ -246,13 +248,13 @@ none_is_left content [] reading gives ahead = ahead
 none_is_left content (r ∷ rest) reading gives ahead = cc gives.0
 
 -- no record was read, where one is there
-unread : {A : Type 0} (told : FolderState) (log rest : List Record) (outcome : Outcome A) (old new : Standing) (e : Stray) → Takes told rest old new (Err e) → Ends told log outcome new (Err e)
+unread : {A : Type 0} (told : FolderState) (log rest : List Record) (outcome : Outcome A) (old new : Standing) (e : Stray) → TakesNext told rest old new (Err e) → Ends told log outcome new (Err e)
 unread told log rest outcome old new (stray.Differs number) takes = absurd takes
 unread told log rest outcome old new stray.ReadFault takes = tt
 unread told log rest outcome old new stray.Memory takes = tt
 
 pub follows_unread : {A : Type 0} (told : FolderState) (part : State → Outcome A) (old new : Standing) (e : Stray) (r : Result A Stray) → IsErrAnd r (λ y. y ≡ e)
-    → ((log done rest : List Record) → IsAt told log done rest old → Takes told rest old new (Err e)) → Follows told part old new r
+    → ((log done rest : List Record) → HasReadTo told log done rest old → TakesNext told rest old new (Err e)) → FollowsPart told part old new r
 follows_unread told part old new e r is takes =
     let p = err_from_is_err_and r is in
     rw (p.1, p.2) (λ log done rest at. unread told log rest (part (here old done rest)) old new e (takes log done rest at))

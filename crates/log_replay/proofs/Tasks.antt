@@ -1,15 +1,16 @@
 -- A whole task, as far as it follows its log.
 use Rattle.std.proofs.Common.{◌≡◌, refl, ap, sym, ◌∙◌, subst, ℕ, suc, ◌+◌, ◌-◌, min, List, [], ◌∷◌, ◌++◌, length, length-append, append_assoc, append-nil, cond, ℤ, Option, Some, None, Result, Ok, Err, arith}
+use Rattle.log_format.specs.Limit.{record_limit}
 use Rattle.sw_base.specs.Environment.{Content, FolderState}
 use Rattle.sw_base.specs.declared.trouble.Trouble.{Trouble}
 use Rattle.sw_base.specs.declared.trouble.Trouble.TheVariants as trouble
-use Rattle.log_replay.specs.Trouble.{of_trouble}
+use Rattle.log_replay.specs.Trouble.{stray_of}
 use Rattle.log_format.specs.declared.record.Record.{Record}
 use Rattle.log_format.specs.declared.record.Kind.TheVariants as kind
 use Rattle.log_reader.specs.Reading.{Reading, GivesNext}
 use Rattle.kernel_syntax.specs.Program.{Program}
 use Rattle.kernel_model.specs.State.{State, Outcome, Gives, after, put, event, reads_of, chunks_of, state_of}
-use Rattle.kernel_model.specs.Trace.{Start, TaskTrace, run, task, site_of, state_at, log_limit, trace_of}
+use Rattle.kernel_model.specs.Trace.{Start, TaskTrace, run, task, site_of, state_at, trace_of}
 use Rattle.kernel_model.specs.Growth.{Grows}
 use Rattle.kernel_model.specs.Value.{Site}
 use Rattle.kernel_syntax.specs.Tree.{TeamTree}
@@ -20,7 +21,7 @@ use Rattle.log_format.specs.declared.record.Kind.{Kind}
 use Rattle.kernel_model.specs.Folder.{own_trace}
 use Rattle.kernel_model.proofs.Equations.{put-room}
 use Rattle.log_replay.specs.Differing.{DiffersAt}
-use Rattle.log_replay.specs.Following.{Standing, HasEnd, IsAt, here, Took, Takes, IsOff, Follows, Reached}
+use Rattle.log_replay.specs.Following.{Standing, HasEnd, HasReadTo, here, Took, TakesNext, IsOff, FollowsPart, Reached}
 use Rattle.log_replay.specs.Task.{StraysSo, Compares, EndsLog}
 use Rattle.log_replay.specs.declared.stray.Stray.{Stray}
 use Rattle.log_replay.specs.declared.stray.Stray.TheVariants as stray
@@ -29,7 +30,7 @@ use Rattle.log_replay.proofs.Stepping.{is_log, number_is, strays_next}
 
 -- ---- the end of the log
 
-pub unread_end : (told : FolderState) (log done rest : List Record) (line : ℕ) (old new : Standing) (e : Stray) → Takes told rest old new (Err e) → EndsLog log done line old new (Err e)
+pub unread_end : (told : FolderState) (log done rest : List Record) (line : ℕ) (old new : Standing) (e : Stray) → TakesNext told rest old new (Err e) → EndsLog log done line old new (Err e)
 unread_end told log done rest line old new (stray.Differs number) takes = absurd takes
 unread_end told log done rest line old new stray.ReadFault takes = tt
 unread_end told log done rest line old new stray.Memory takes = tt
@@ -48,7 +49,7 @@ some_other : (content : Content) (others : List Record) (q : Record) (reading : 
 some_other content [] q reading gives = absurd (cc gives.0)
 some_other content (first ∷ rest) q reading gives = record { first = first; rest = rest; are = refl }
 
-module _ (told : FolderState) (log done rest : List Record) (x : Standing) (at : IsAt told log done rest x) (r : Record) (y : Standing) (took : Took told rest r x y) (line : ℕ) where
+module _ (told : FolderState) (log done rest : List Record) (x : Standing) (at : HasReadTo told log done rest x) (r : Record) (y : Standing) (took : Took told rest r x y) (line : ℕ) where
   pub other_end : (number : ℕ) → (r ≡ event kind.End line 0 0 → ⊥) → number ≡ y.count → DiffersAt (done ++ event kind.End line 0 0 ∷ []) log number
   other_end number apart is =
       strays_differ (done ++ event kind.End line 0 0 ∷ []) log number
@@ -98,7 +99,7 @@ end_grows r s is = kept-put Grows grows-plain r s (λ room left. record {
   fork_count = sym (ap (λ (k : Kind). 0 + cond (is_region_kind k) 1 0) is);
 })
 
-module _ (told : FolderState) (log : List Record) (program : Program) (start : Start) (site : Site) (site_is : site_of program start ≡ site) (old : Standing) (at : IsAt told log [] log old) (slots : old.slots ≡ start.slots) (forks : old.forks ≡ []) where
+module _ (told : FolderState) (log : List Record) (program : Program) (start : Start) (site : Site) (site_is : site_of program start ≡ site) (old : Standing) (at : HasReadTo told log [] log old) (slots : old.slots ≡ start.slots) (forks : old.forks ≡ []) where
   abbrev body : State → Outcome (Unit {0})
   body = run site start.team.body
 
@@ -118,7 +119,7 @@ module _ (told : FolderState) (log : List Record) (program : Program) (start : S
       ∙ ap (λ (s : State). trace_of (after (body s) (put last)) (state_of (after (body s) (put last)))) state_is
 
   -- the body left the log
-  pub body_stops : (new : Standing) (e : Stray) → Follows told body old new (Err e) → StraysSo program start log e
+  pub body_stops : (new : Standing) (e : Stray) → FollowsPart told body old new (Err e) → StraysSo program start log e
   body_stops new (stray.Differs number) follows =
       subst (λ (l : List Record). DiffersAt l log number) (sym (ap (λ (t : TaskTrace). t.records) trace_is))
       (off_differs log number whole
@@ -128,7 +129,7 @@ module _ (told : FolderState) (log : List Record) (program : Program) (start : S
   body_stops new stray.Memory follows = tt
 
   module _ (mid new : Standing) (reached : Reached told log (body (here old [] log)) tt mid) where
-    room : log_limit - length reached.done ≡ suc (log_limit - length reached.done - 1)
+    room : record_limit - length reached.done ≡ suc (record_limit - length reached.done - 1)
     room =
         let first = has_first reached.rest reached.at.ahead in
         let parts : length log ≡ length reached.done + length reached.rest = ap length reached.at.parts ∙ length-append reached.done reached.rest in
@@ -136,10 +137,10 @@ module _ (told : FolderState) (log : List Record) (program : Program) (start : S
         let fits = reached.at.fits in omega (arith, parts, some, fits)
 
     abbrev ended : State
-    ended = record (here mid reached.done reached.rest) { records = reached.done ++ last ∷ []; room = log_limit - length reached.done - 1 }
+    ended = record (here mid reached.done reached.rest) { records = reached.done ++ last ∷ []; room = record_limit - length reached.done - 1 }
 
     ended_is : whole ≡ Gives tt ended
-    ended_is = ap (λ (o : Outcome (Unit {0})). after o (put last)) reached.gives ∙ put-room last (here mid reached.done reached.rest) (log_limit - length reached.done - 1) room
+    ended_is = ap (λ (o : Outcome (Unit {0})). after o (put last)) reached.gives ∙ put-room last (here mid reached.done reached.rest) (record_limit - length reached.done - 1) room
 
     whole_is : own_trace program start log ≡ trace_of (Gives tt ended) ended
     whole_is = trace_is ∙ ap (λ (o : Outcome (Unit {0})). trace_of o (state_of o)) ended_is
@@ -167,6 +168,6 @@ restarted program team lane lane' slots slots' log x r one other compares =
     (subst (λ (s : List ℤ). Compares program (record { team = team; lane = lane'; slots = s }) log x r) other compares)
 
 -- a log that isn't read tells nothing
-pub trouble_strays : (program : Program) (start : Start) (log : List Record) (t : Trouble) → StraysSo program start log (of_trouble t)
+pub trouble_strays : (program : Program) (start : Start) (log : List Record) (t : Trouble) → StraysSo program start log (stray_of t)
 trouble_strays program start log trouble.Memory = tt
 trouble_strays program start log trouble.Failed = tt

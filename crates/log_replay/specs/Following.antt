@@ -1,5 +1,6 @@
 -- How a task follows its log: what it has done is its trace so far, under the values that the log tells, as far as the log was read.
 use Rattle.std.specs.Prelude.{◌≡◌, ◌⊎◌, ℕ, ◌+◌, ◌-◌, ◌≤◌, List, [], ◌∷◌, ◌++◌, length, min, ℤ, Option, Some, Result, Ok, Err}
+use Rattle.log_format.specs.Limit.{record_limit}
 use Rattle.sw_base.specs.Environment.{Content, FolderState}
 use Rattle.log_format.specs.declared.record.Record.{Record}
 use Rattle.log_format.specs.declared.record.Kind.{Kind}
@@ -7,7 +8,6 @@ use Rattle.log_format.specs.declared.record.Kind.TheVariants as kind
 use Rattle.log_reader.specs.Reading.{Reading, StandsBefore}
 use Rattle.kernel_model.specs.State.{State, Fork, Outcome, Gives, Stops, Wants, reads_of, chunks_of}
 use Rattle.kernel_model.specs.Effect.{state_with}
-use Rattle.kernel_model.specs.Trace.{log_limit}
 use Rattle.log_replay.specs.Differing.{DiffersAt}
 use Rattle.log_replay.specs.declared.stray.Stray.{Stray}
 use Rattle.log_replay.specs.declared.stray.Stray.TheVariants as stray
@@ -25,18 +25,18 @@ HasEnd [] = ⊥
 HasEnd (r ∷ rs) = (r.kind ≡ kind.End) ⊎ HasEnd rs
 
 -- these records of the log were read, and these are left, with an End among them
-pub record IsAt (told : FolderState) (log done rest : List Record) (x : Standing) : Type 0 where
+pub record HasReadTo (told : FolderState) (log done rest : List Record) (x : Standing) : Type 0 where
   pub content : Content
   pub is_told : told.content ≡ Some content
   pub stands : StandsBefore content x.reading rest
   pub parts : log ≡ done ++ rest
   pub count : x.count ≡ length done
   pub ahead : HasEnd rest
-  pub fits : length log ≤ log_limit
+  pub fits : length log ≤ record_limit
 
 -- the state of the task, where what it did is what was read, and what it will read and draw is what is left
 abbrev pub here : Standing → List Record → List Record → State
-here x done rest = state_with x.slots done x.forks (log_limit - length done) (reads_of rest) (chunks_of rest)
+here x done rest = state_with x.slots done x.forks (record_limit - length done) (reads_of rest) (chunks_of rest)
 
 -- the next record was read
 pub record Took (told : FolderState) (rest : List Record) (r : Record) (old new : Standing) : Type 0 where
@@ -48,10 +48,10 @@ pub record Took (told : FolderState) (rest : List Record) (r : Record) (old new 
   pub forks : new.forks ≡ old.forks
 
 -- the record that comes next was read; there is one
-abbrev pub Takes : FolderState → List Record → Standing → Standing → Result Record Stray → Type 0
-Takes told rest old new (Ok r) = Took told rest r old new
-Takes told rest old new (Err (stray.Differs number)) = ⊥
-Takes told rest old new (Err _) = Unit {0}
+abbrev pub TakesNext : FolderState → List Record → Standing → Standing → Result Record Stray → Type 0
+TakesNext told rest old new (Ok r) = Took told rest r old new
+TakesNext told rest old new (Err (stray.Differs number)) = ⊥
+TakesNext told rest old new (Err _) = Unit {0}
 
 -- the kinds of records in a task's statements that tell no value that the task takes from its log
 abbrev pub IsMark : Kind → Type 0
@@ -85,7 +85,7 @@ IsOff log number (Wants s) = DiffersAt s.records log number
 pub record Reached {A : Type 0} (told : FolderState) (log : List Record) (outcome : Outcome A) (value : A) (x : Standing) : Type 0 where
   pub done : List Record
   pub rest : List Record
-  pub at : IsAt told log done rest x
+  pub at : HasReadTo told log done rest x
   pub gives : outcome ≡ Gives value (here x done rest)
 
 -- how a part ends, by what is answered
@@ -95,5 +95,5 @@ Ends told log outcome new (Err (stray.Differs number)) = IsOff log number outcom
 Ends told log outcome new (Err _) = Unit {0}
 
 -- the lane followed a part of its trace
-abbrev pub Follows : {A : Type 0} → FolderState → (State → Outcome A) → Standing → Standing → Result A Stray → Type 0
-Follows told part old new r = (log done rest : List Record) → IsAt told log done rest old → Ends told log (part (here old done rest)) new r
+abbrev pub FollowsPart : {A : Type 0} → FolderState → (State → Outcome A) → Standing → Standing → Result A Stray → Type 0
+FollowsPart told part old new r = (log done rest : List Record) → HasReadTo told log done rest old → Ends told log (part (here old done rest)) new r

@@ -4,6 +4,6 @@ use Rattle.sw_base.specs.declared.trouble.Trouble.TheVariants as trouble
 use Rattle.log_replay.specs.declared.stray.Stray.{Stray}
 use Rattle.log_replay.specs.declared.stray.Stray.TheVariants as stray
 
-abbrev pub of_trouble : Trouble → Stray
-of_trouble trouble.Memory = stray.Memory
-of_trouble trouble.Failed = stray.ReadFault
+abbrev pub stray_of : Trouble → Stray
+stray_of trouble.Memory = stray.Memory
+stray_of trouble.Failed = stray.ReadFault

@@ -11,43 +11,27 @@ ghost use Rattle.kernel_model.specs.Drawing.{turn_from, draw_all, draw_once};
 ghost use Rattle.kernel_model.specs.Iterations.{chunk_count, chunk_iterations, static_iterations, total_of};
 ghost use Rattle.kernel_model.specs.Trace.{changed, each, loop_end, run, shared, turns};
 ghost use Rattle.kernel_model.specs.Value.{element_at};
-ghost use Rattle.log_replay.specs.Following.{Follows};
+ghost use Rattle.log_replay.specs.Following.{FollowsPart};
 ghost use Rattle.log_replay.specs.Forks.{standing};
 ghost use Rattle.log_replay.specs.Sharing.{sharing};
 
 use crate::forked::Forked;
-use crate::lane::{Lane, event};
+use crate::lane::ReplayLane;
 use crate::stray::Stray;
 use kernel_model::Change;
 use kernel_syntax::{Body, Expr, Schedule, Stmt, Team, even_share, fit};
 use log_format::Kind;
 use std::alloc::Global;
 use sw_base::Folder;
-use task_place::{Place, access};
+use task_place::{TaskPlace, access, event, number_at, total_of};
 
-/// How many turns a loop has.
-fn total_of(from: i64, to: i64) -> u64
-    ensures count { result ≡ total_of from to }
-    ensures top { (from +ℤ pos result) ≤ℤ pos (2 ^ 63 - 1) }
-{
-    if from < to { to.abs_diff(from) } else { 0 }
-}
-
-/// The number of a turn.
-fn number_at(from: i64, first: u64, i: u64) -> i64
-    requires { (from +ℤ pos (first + i)) ≤ℤ pos (2 ^ 63 - 1) }
-    ensures { result ≡ from +ℤ pos (first + i) }
-{
-    from.wrapping_add_unsigned(first + i)
-}
-
-impl<'k> Lane<'k> {
+impl<'k> ReplayLane<'k> {
     /// Stores or adds an amount, after the index and the value.
     fn put_value<F: Folder>(
         &mut self,
         alloc: Global,
         folder: &mut F,
-        place: &Place,
+        place: &TaskPlace,
         change: Change,
         array: u32,
         index: i64,
@@ -55,7 +39,7 @@ impl<'k> Lane<'k> {
         line: u32,
         site: u16,
     ) -> Result<(), Stray>
-        ensures follows { Follows (F.state folder.old) (changed (kind_of change) (element_at place.now.arrays array index) amount line site) (standing self.old) (standing self.new) result }
+        ensures follows { FollowsPart (F.state folder.old) (changed (kind_of change) (element_at place.now.arrays array index) amount line site) (standing self.old) (standing self.new) result }
         ensures fewer { IfOk result (λ _. self.new.reader.left ≤ self.old.reader.left) }
         ensures reads { OnlyReads F.Folder folder.old folder.new (IsErrOf result Stray.ReadFault) }
     {
@@ -73,10 +57,10 @@ impl<'k> Lane<'k> {
         expr: &Expr,
         alloc: Global,
         folder: &mut F,
-        place: &Place,
+        place: &TaskPlace,
         slot: u32,
     ) -> Result<(), Stray>
-        ensures follows { Follows (F.state folder.old) (run place.now (tree.Set slot (term_of expr.now) Done)) (standing self.old) (standing self.new) result }
+        ensures follows { FollowsPart (F.state folder.old) (run place.now (tree.Set slot (term_of expr.now) Done)) (standing self.old) (standing self.new) result }
         ensures fewer { IfOk result (λ _. self.new.reader.left ≤ self.old.reader.left) }
         ensures reads { OnlyReads F.Folder folder.old folder.new (IsErrOf result Stray.ReadFault) }
     {
@@ -92,13 +76,13 @@ impl<'k> Lane<'k> {
         expr: &Expr,
         alloc: Global,
         folder: &mut F,
-        place: &Place,
+        place: &TaskPlace,
         change: Change,
         array: u32,
         line: u32,
         site: u16,
     ) -> Result<(), Stray>
-        ensures follows { Follows (F.state folder.old) (run place.now (changing change array (term_of index.now) (term_of expr.now) line site Done)) (standing self.old) (standing self.new) result }
+        ensures follows { FollowsPart (F.state folder.old) (run place.now (changing change array (term_of index.now) (term_of expr.now) line site Done)) (standing self.old) (standing self.new) result }
         ensures fewer { IfOk result (λ _. self.new.reader.left ≤ self.old.reader.left) }
         ensures reads { OnlyReads F.Folder folder.old folder.new (IsErrOf result Stray.ReadFault) }
     {
@@ -113,11 +97,11 @@ impl<'k> Lane<'k> {
         &mut self,
         alloc: Global,
         folder: &mut F,
-        place: &Place,
+        place: &TaskPlace,
         team: &'k Team,
     ) -> Result<(), Stray>
         requires bounded { IsBoundedCode (code_of team.now.body.stmts.items) }
-        ensures follows { Follows (F.state folder.old) (run place.now (tree.Parallel team.now.span team.now.line team.now.end (code_of team.now.body.stmts.items) Done)) (standing self.old) (standing self.new) result }
+        ensures follows { FollowsPart (F.state folder.old) (run place.now (tree.Parallel team.now.span team.now.line team.now.end (code_of team.now.body.stmts.items) Done)) (standing self.old) (standing self.new) result }
         ensures fewer { IfOk result (λ _. self.new.reader.left ≤ self.old.reader.left) }
         ensures reads { OnlyReads F.Folder folder.old folder.new (IsErrOf result Stray.ReadFault) }
     {
@@ -136,7 +120,7 @@ impl<'k> Lane<'k> {
         nowait: bool,
         end: u32,
     ) -> Result<(), Stray>
-        ensures follows { Follows (F.state folder.old) (loop_end nowait end) (standing self.old) (standing self.new) result }
+        ensures follows { FollowsPart (F.state folder.old) (loop_end nowait end) (standing self.old) (standing self.new) result }
         ensures fewer { IfOk result (λ _. self.new.reader.left ≤ self.old.reader.left) }
         ensures reads { OnlyReads F.Folder folder.old folder.new (IsErrOf result Stray.ReadFault) }
     {
@@ -153,10 +137,10 @@ impl<'k> Lane<'k> {
         body: &'k Body,
         alloc: Global,
         folder: &mut F,
-        place: &Place,
+        place: &TaskPlace,
     ) -> Result<(), Stray>
         requires bounded { IsBoundedCode (code_of body.now.stmts.items) }
-        ensures follows { Follows (F.state folder.old) (run place.now (code_of body.now.stmts.items)) (standing self.old) (standing self.new) result }
+        ensures follows { FollowsPart (F.state folder.old) (run place.now (code_of body.now.stmts.items)) (standing self.old) (standing self.new) result }
         ensures fewer { IfOk result (λ _. self.new.reader.left ≤ self.old.reader.left) }
         ensures reads { OnlyReads F.Folder folder.old folder.new (IsErrOf result Stray.ReadFault) }
     {
@@ -173,7 +157,7 @@ impl<'k> Lane<'k> {
         body: &'k Body,
         alloc: Global,
         folder: &mut F,
-        place: &Place,
+        place: &TaskPlace,
         slot: u32,
         from: i64,
         first: u64,
@@ -181,7 +165,7 @@ impl<'k> Lane<'k> {
     ) -> Result<(), Stray>
         requires bounded { IsBoundedCode (code_of body.now.stmts.items) }
         requires top { (from +ℤ pos (first + count)) ≤ℤ pos (2 ^ 63 - 1) }
-        ensures follows { Follows (F.state folder.old) (turns count first (turn_from place.now (code_of body.now.stmts.items) slot from)) (standing self.old) (standing self.new) result }
+        ensures follows { FollowsPart (F.state folder.old) (turns count first (turn_from place.now (code_of body.now.stmts.items) slot from)) (standing self.old) (standing self.new) result }
         ensures fewer { IfOk result (λ _. self.new.reader.left ≤ self.old.reader.left) }
         ensures reads { OnlyReads F.Folder folder.old folder.new (IsErrOf result Stray.ReadFault) }
     {
@@ -199,13 +183,13 @@ impl<'k> Lane<'k> {
         body: &'k Body,
         alloc: Global,
         folder: &mut F,
-        place: &Place,
+        place: &TaskPlace,
         mutex: u16,
         line: u32,
         end: u32,
     ) -> Result<(), Stray>
         requires bounded { IsBoundedCode (code_of body.now.stmts.items) }
-        ensures follows { Follows (F.state folder.old) (run place.now (tree.Critical mutex line end (code_of body.now.stmts.items) Done)) (standing self.old) (standing self.new) result }
+        ensures follows { FollowsPart (F.state folder.old) (run place.now (tree.Critical mutex line end (code_of body.now.stmts.items) Done)) (standing self.old) (standing self.new) result }
         ensures fewer { IfOk result (λ _. self.new.reader.left ≤ self.old.reader.left) }
         ensures reads { OnlyReads F.Folder folder.old folder.new (IsErrOf result Stray.ReadFault) }
     {
@@ -221,7 +205,7 @@ impl<'k> Lane<'k> {
         body: &'k Body,
         alloc: Global,
         folder: &mut F,
-        place: &Place,
+        place: &TaskPlace,
         slot: u32,
         from: i64,
         total: u64,
@@ -230,7 +214,7 @@ impl<'k> Lane<'k> {
         requires bounded { IsBoundedCode (code_of body.now.stmts.items) }
         requires some { 0 < chunk }
         requires top { (from +ℤ pos total) ≤ℤ pos (2 ^ 63 - 1) }
-        ensures follows { Follows (F.state folder.old) (each (static_iterations chunk total place.now.lane place.now.span) (turn_from place.now (code_of body.now.stmts.items) slot from)) (standing self.old) (standing self.new) result }
+        ensures follows { FollowsPart (F.state folder.old) (each (static_iterations chunk total place.now.lane place.now.span) (turn_from place.now (code_of body.now.stmts.items) slot from)) (standing self.old) (standing self.new) result }
         ensures fewer { IfOk result (λ _. self.new.reader.left ≤ self.old.reader.left) }
         ensures reads { OnlyReads F.Folder folder.old folder.new (IsErrOf result Stray.ReadFault) }
     {
@@ -252,7 +236,7 @@ impl<'k> Lane<'k> {
         body: &'k Body,
         alloc: Global,
         folder: &mut F,
-        place: &Place,
+        place: &TaskPlace,
         slot: u32,
         from: i64,
         total: u64,
@@ -262,7 +246,7 @@ impl<'k> Lane<'k> {
         requires bounded { IsBoundedCode (code_of body.now.stmts.items) }
         requires some { 0 < chunk }
         requires top { (from +ℤ pos total) ≤ℤ pos (2 ^ 63 - 1) }
-        ensures follows { Follows (F.state folder.old) (draw_once line (chunk_count chunk total) (λ q. each (chunk_iterations chunk total q) (turn_from place.now (code_of body.now.stmts.items) slot from))) (standing self.old) (standing self.new) result }
+        ensures follows { FollowsPart (F.state folder.old) (draw_once line (chunk_count chunk total) (λ q. each (chunk_iterations chunk total q) (turn_from place.now (code_of body.now.stmts.items) slot from))) (standing self.old) (standing self.new) result }
         ensures less { IfOk result (λ _. self.new.reader.left < self.old.reader.left) }
         ensures fewer { IfOk result (λ _. self.new.reader.left ≤ self.old.reader.left) }
         ensures reads { OnlyReads F.Folder folder.old folder.new (IsErrOf result Stray.ReadFault) }
@@ -285,7 +269,7 @@ impl<'k> Lane<'k> {
         body: &'k Body,
         alloc: Global,
         folder: &mut F,
-        place: &Place,
+        place: &TaskPlace,
         slot: u32,
         from: i64,
         total: u64,
@@ -295,7 +279,7 @@ impl<'k> Lane<'k> {
         requires bounded { IsBoundedCode (code_of body.now.stmts.items) }
         requires some { 0 < chunk }
         requires top { (from +ℤ pos total) ≤ℤ pos (2 ^ 63 - 1) }
-        ensures follows { Follows (F.state folder.old) (draw_all line (chunk_count chunk total) (λ q. each (chunk_iterations chunk total q) (turn_from place.now (code_of body.now.stmts.items) slot from))) (standing self.old) (standing self.new) result }
+        ensures follows { FollowsPart (F.state folder.old) (draw_all line (chunk_count chunk total) (λ q. each (chunk_iterations chunk total q) (turn_from place.now (code_of body.now.stmts.items) slot from))) (standing self.old) (standing self.new) result }
         ensures fewer { IfOk result (λ _. self.new.reader.left ≤ self.old.reader.left) }
         ensures reads { OnlyReads F.Folder folder.old folder.new (IsErrOf result Stray.ReadFault) }
     {
@@ -313,7 +297,7 @@ impl<'k> Lane<'k> {
         body: &'k Body,
         alloc: Global,
         folder: &mut F,
-        place: &Place,
+        place: &TaskPlace,
         slot: u32,
         from: i64,
         total: u64,
@@ -323,7 +307,7 @@ impl<'k> Lane<'k> {
         requires bounded { IsBoundedCode (code_of body.now.stmts.items) }
         requires chunk { IsBoundedSchedule schedule }
         requires top { (from +ℤ pos total) ≤ℤ pos (2 ^ 63 - 1) }
-        ensures follows { Follows (F.state folder.old) (shared schedule place.now line total (turn_from place.now (code_of body.now.stmts.items) slot from)) (standing self.old) (standing self.new) result }
+        ensures follows { FollowsPart (F.state folder.old) (shared schedule place.now line total (turn_from place.now (code_of body.now.stmts.items) slot from)) (standing self.old) (standing self.new) result }
         ensures fewer { IfOk result (λ _. self.new.reader.left ≤ self.old.reader.left) }
         ensures reads { OnlyReads F.Folder folder.old folder.new (IsErrOf result Stray.ReadFault) }
     {
@@ -351,14 +335,14 @@ impl<'k> Lane<'k> {
         to: &Expr,
         alloc: Global,
         folder: &mut F,
-        place: &Place,
+        place: &TaskPlace,
         slot: u32,
         schedule: Schedule,
         line: u32,
     ) -> Result<(), Stray>
         requires bounded { IsBoundedCode (code_of body.now.stmts.items) }
         requires chunk { IsBoundedSchedule schedule }
-        ensures follows { Follows (F.state folder.old) (sharing place.now slot (term_of from.now) (term_of to.now) schedule line (code_of body.now.stmts.items)) (standing self.old) (standing self.new) result }
+        ensures follows { FollowsPart (F.state folder.old) (sharing place.now slot (term_of from.now) (term_of to.now) schedule line (code_of body.now.stmts.items)) (standing self.old) (standing self.new) result }
         ensures fewer { IfOk result (λ _. self.new.reader.left ≤ self.old.reader.left) }
         ensures reads { OnlyReads F.Folder folder.old folder.new (IsErrOf result Stray.ReadFault) }
     {
@@ -379,11 +363,11 @@ impl<'k> Lane<'k> {
         to: &Expr,
         alloc: Global,
         folder: &mut F,
-        place: &Place,
+        place: &TaskPlace,
         slot: u32,
     ) -> Result<(), Stray>
         requires bounded { IsBoundedCode (code_of body.now.stmts.items) }
-        ensures follows { Follows (F.state folder.old) (run place.now (tree.Loop slot (term_of from.now) (term_of to.now) (code_of body.now.stmts.items) Done)) (standing self.old) (standing self.new) result }
+        ensures follows { FollowsPart (F.state folder.old) (run place.now (tree.Loop slot (term_of from.now) (term_of to.now) (code_of body.now.stmts.items) Done)) (standing self.old) (standing self.new) result }
         ensures fewer { IfOk result (λ _. self.new.reader.left ≤ self.old.reader.left) }
         ensures reads { OnlyReads F.Folder folder.old folder.new (IsErrOf result Stray.ReadFault) }
     {
@@ -400,10 +384,10 @@ impl<'k> Lane<'k> {
         stmt: &'k Stmt,
         alloc: Global,
         folder: &mut F,
-        place: &Place,
+        place: &TaskPlace,
     ) -> Result<(), Stray>
         requires bounded { IsBoundedCode (stmt_code stmt.now Done) }
-        ensures follows { Follows (F.state folder.old) (run place.now (stmt_code stmt.now Done)) (standing self.old) (standing self.new) result }
+        ensures follows { FollowsPart (F.state folder.old) (run place.now (stmt_code stmt.now Done)) (standing self.old) (standing self.new) result }
         ensures fewer { IfOk result (λ _. self.new.reader.left ≤ self.old.reader.left) }
         ensures reads { OnlyReads F.Folder folder.old folder.new (IsErrOf result Stray.ReadFault) }
     {

@@ -8,7 +8,7 @@ ghost use Rattle.kernel_model.specs.State.{put, event};
 ghost use Rattle.kernel_model.specs.Trace.{draw};
 ghost use Rattle.kernel_model.specs.Value.{access, read};
 ghost use Rattle.log_format.specs.Fitting.{IsWidth};
-ghost use Rattle.log_replay.specs.Following.{Follows, IsAt, IsMark, Takes};
+ghost use Rattle.log_replay.specs.Following.{FollowsPart, HasReadTo, IsMark, TakesNext};
 ghost use Rattle.log_replay.specs.Forks.{standing};
 ghost use Rattle.task_place.specs.Placing.{meant};
 ghost use Rattle.log_replay.specs.declared.stray.Stray.TheVariants as stray;
@@ -20,11 +20,11 @@ use log_format::{Kind, Record};
 use log_reader::LogReader;
 use std::alloc::Global;
 use sw_base::Folder;
-use task_place::{Element, Locals, access};
+use task_place::{Element, Locals, access, event};
 
 /// A task that follows its log.
 #[derive(Drop)]
-pub struct Lane<'k> {
+pub struct ReplayLane<'k> {
     pub locals: Locals,
     pub forks: Vec<Forked<'k>>,
     pub reader: LogReader,
@@ -49,21 +49,7 @@ pub(crate) fn is_same(a: &Record, b: &Record) -> bool
         && a.value == b.value
 }
 
-/// The record of a step that is no access.
-pub(crate) fn event(kind: Kind, line: u32, addr: u64, value: u64) -> Record
-    ensures { result ≡ event kind line addr value }
-{
-    Record {
-        kind,
-        size: 0,
-        site: 0,
-        line,
-        addr,
-        value,
-    }
-}
-
-impl<'k> Lane<'k> {
+impl<'k> ReplayLane<'k> {
     /// Sets a local variable.
     pub fn set(&mut self, slot: u32, value: i64)
         ensures set { standing self.new ≡ record (standing self.old) { slots = slice_set self.old.locals.slots.items slot value } }
@@ -83,7 +69,7 @@ impl<'k> Lane<'k> {
 
     // The next record of the log.
     pub(crate) fn next<F: Folder>(&mut self, alloc: Global, folder: &mut F) -> Result<Record, Stray>
-        ensures takes { (log done rest : List Record) → IsAt (F.state folder.old) log done rest (standing self.old) → Takes (F.state folder.old) rest (standing self.old) (standing self.new) result }
+        ensures takes { (log done rest : List Record) → HasReadTo (F.state folder.old) log done rest (standing self.old) → TakesNext (F.state folder.old) rest (standing self.old) (standing self.new) result }
         ensures less { IfOk result (λ _. self.new.reader.left < self.old.reader.left) }
         ensures reads { OnlyReads F.Folder folder.old folder.new (IsErrOf result Stray.ReadFault) }
     {
@@ -106,7 +92,7 @@ impl<'k> Lane<'k> {
         site: u16,
     ) -> Result<i64, Stray>
         requires { IsWidth element.now.width }
-        ensures follows { Follows (F.state folder.old) (read (meant element.now) site line) (standing self.old) (standing self.new) result }
+        ensures follows { FollowsPart (F.state folder.old) (read (meant element.now) site line) (standing self.old) (standing self.new) result }
         ensures fewer { IfOk result (λ _. self.new.reader.left ≤ self.old.reader.left) }
         ensures reads { OnlyReads F.Folder folder.old folder.new (IsErrOf result Stray.ReadFault) }
     {
@@ -127,7 +113,7 @@ impl<'k> Lane<'k> {
         due: Record,
     ) -> Result<(), Stray>
         requires { IsMark due.kind }
-        ensures follows { Follows (F.state folder.old) (put due) (standing self.old) (standing self.new) result }
+        ensures follows { FollowsPart (F.state folder.old) (put due) (standing self.old) (standing self.new) result }
         ensures fewer { IfOk result (λ _. self.new.reader.left ≤ self.old.reader.left) }
         ensures reads { OnlyReads F.Folder folder.old folder.new (IsErrOf result Stray.ReadFault) }
     {
@@ -146,7 +132,7 @@ impl<'k> Lane<'k> {
         line: u32,
         chunks: u64,
     ) -> Result<u64, Stray>
-        ensures follows { Follows (F.state folder.old) (draw line chunks) (standing self.old) (standing self.new) result }
+        ensures follows { FollowsPart (F.state folder.old) (draw line chunks) (standing self.old) (standing self.new) result }
         ensures within { IfOk result (λ number. number ≤ chunks) }
         ensures less { IfOk result (λ _. self.new.reader.left < self.old.reader.left) }
         ensures reads { OnlyReads F.Folder folder.old folder.new (IsErrOf result Stray.ReadFault) }

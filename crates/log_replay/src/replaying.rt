@@ -1,5 +1,6 @@
 //! All tasks of a folder against a kernel.
 ghost use Rattle.std.specs.Prelude.{◌≡◌, ◌↔◌, ◌≤◌, List, [], length, IfOk, IfErr, IsErrOf};
+ghost use Rattle.log_format.specs.Limit.{record_limit};
 ghost use Rattle.log_format.specs.declared.format.TheConstants.{FORMAT};
 ghost use Rattle.log_format.specs.declared.record.Record.{Record};
 ghost use Rattle.sw_base.specs.Environment.{WhereTold};
@@ -10,7 +11,6 @@ ghost use Rattle.race_model.specs.LogFault.{IsWholeLog};
 ghost use Rattle.race_model.specs.Trace.{Logs, Trace};
 ghost use Rattle.race_model.specs.WellFormed.{IsWellFormed};
 ghost use Rattle.kernel_syntax.specs.Program.{program_of};
-ghost use Rattle.kernel_model.specs.Trace.{log_limit};
 ghost use Rattle.log_walk.specs.Walk.{TellsFirstBad};
 ghost use Rattle.log_replay.specs.Ancestors.{ComparesTask, IsFoundOf, KeepsAllForks, forks_kept};
 ghost use Rattle.log_replay.specs.Following.{HasEnd};
@@ -61,7 +61,7 @@ fn compare_task<'k, F: Folder>(
 ) -> Result<Option<u32>, WalkFault>
     requires { IsReplayable (program_of kernel.now) }
     ensures compares { IfOk result (λ found. WhereTold (F.state folder.old).content (λ c. (logs : Logs) → KeepsAllForks (program_of kernel.now) logs (forks_kept kept.old.items) row.now.path
-        → IsWholeLog FORMAT c.held dir.now row.now.path (logs row.now.path) → row.now.records ≡ length (logs row.now.path) → HasEnd (logs row.now.path) → length (logs row.now.path) ≤ log_limit
+        → IsWholeLog FORMAT c.held dir.now row.now.path (logs row.now.path) → row.now.records ≡ length (logs row.now.path) → HasEnd (logs row.now.path) → length (logs row.now.path) ≤ record_limit
         → ComparesTask (program_of kernel.now) logs row.now.path (forks_kept kept.old.items) (forks_kept kept.new.items) found)) }
     ensures only_faults { IfErr result (λ e. IsTroubled e) }
     ensures reads { OnlyReads F.Folder folder.old folder.new (IsErrOf result WalkFault.ReadFault) }

@@ -15,9 +15,9 @@ pub enum Stray {
 
 impl From<Trouble> for Stray {
     ghost use Rattle.std.specs.Prelude.{◌≡◌};
-    ghost use Rattle.log_replay.specs.Trouble.{of_trouble};
+    ghost use Rattle.log_replay.specs.Trouble.{stray_of};
 
-    ghost from_gives = { λ trouble e. e ≡ of_trouble trouble };
+    ghost from_gives = { λ trouble e. e ≡ stray_of trouble };
 
     fn from(trouble: Trouble) -> Self {
         match trouble {

@@ -1,34 +1,32 @@
 //! The value of an expression.
-ghost use Rattle.std.specs.Prelude.{◌≡◌, ◌≤◌, ◌+◌, min, ok_or, IfOk, IsErrOf};
+ghost use Rattle.std.specs.Prelude.{◌≤◌, IfOk, IsErrOf};
 ghost use Rattle.sw_base.specs.OnlyReads.{OnlyReads};
-ghost use Rattle.log_replay.specs.declared.stray.Stray.TheVariants as stray;
-ghost use Rattle.kernel_syntax.specs.Arithmetic.{applied};
 ghost use Rattle.kernel_syntax.specs.Program.{term_of};
 ghost use Rattle.kernel_model.specs.Value.{element_at, loaded, value};
-ghost use Rattle.log_replay.specs.Following.{Follows};
+ghost use Rattle.log_replay.specs.Following.{FollowsPart};
 ghost use Rattle.log_replay.specs.Forks.{standing};
 
-use crate::lane::Lane;
+use crate::lane::ReplayLane;
 use crate::stray::Stray;
 use kernel_model::negate;
-use kernel_syntax::{Expr, Op, apply};
+use kernel_syntax::Expr;
 use std::alloc::Global;
 use sw_base::Folder;
-use task_place::Place;
+use task_place::{TaskPlace, operate};
 
-impl<'k> Lane<'k> {
+impl<'k> ReplayLane<'k> {
     /// Reads an element, after its index.
     fn load<F: Folder>(
         &mut self,
         alloc: Global,
         folder: &mut F,
-        place: &Place,
+        place: &TaskPlace,
         array: u32,
         index: i64,
         line: u32,
         site: u16,
     ) -> Result<i64, Stray>
-        ensures follows { Follows (F.state folder.old) (loaded (element_at place.now.arrays array index) line site) (standing self.old) (standing self.new) result }
+        ensures follows { FollowsPart (F.state folder.old) (loaded (element_at place.now.arrays array index) line site) (standing self.old) (standing self.new) result }
         ensures fewer { IfOk result (λ _. self.new.reader.left ≤ self.old.reader.left) }
         ensures reads { OnlyReads F.Folder folder.old folder.new (IsErrOf result Stray.ReadFault) }
     {
@@ -38,22 +36,15 @@ impl<'k> Lane<'k> {
         self.read(alloc, folder, &element, line, site)
     }
 
-    // The operation on two values; a zero divisor stops the task.
-    fn operate(&self, op: Op, left: i64, right: i64) -> Result<i64, Stray>
-        ensures { result ≡ ok_or (applied op left right) (stray.Differs (min (self.now.count + 1) 4294967295)) }
-    {
-        apply(op, left, right).ok_or(self.stray())
-    }
-
     /// The value of an expression.
     pub fn value<F: Folder>(
         &mut self,
         expr: &Expr,
         alloc: Global,
         folder: &mut F,
-        place: &Place,
+        place: &TaskPlace,
     ) -> Result<i64, Stray>
-        ensures follows { Follows (F.state folder.old) (value place.now (term_of expr.now)) (standing self.old) (standing self.new) result }
+        ensures follows { FollowsPart (F.state folder.old) (value place.now (term_of expr.now)) (standing self.old) (standing self.new) result }
         ensures fewer { IfOk result (λ _. self.new.reader.left ≤ self.old.reader.left) }
         ensures reads { OnlyReads F.Folder folder.old folder.new (IsErrOf result Stray.ReadFault) }
     {
@@ -83,7 +74,7 @@ impl<'k> Lane<'k> {
             } => {
                 let first = self.value(left, alloc, folder, place)?;
                 let second = self.value(right, alloc, folder, place)?;
-                self.operate(*op, first, second)
+                operate(*op, first, second, self.stray())
             }
         }
     }

@@ -5,13 +5,13 @@ use Rattle.std.specs.List.{AllZip}
 use Rattle.std.proofs.lemmas.List.{length_push, append-nil}
 use Rattle.std.proofs.lemmas.List.Elements.{filter-append}
 use Rattle.std.proofs.lemmas.Option.{same_Some}
+use Rattle.log_format.specs.Fitting.{IsWidth}
 use Rattle.sw_base.specs.declared.path.Step.{Step}
 use Rattle.race_model.proofs.Held.{held_after-append}
 use Rattle.log_format.specs.declared.record.Record.{Record}
 use Rattle.log_format.specs.declared.record.Kind.{Kind}
 use Rattle.log_format.specs.declared.record.Kind.TheVariants.{Read, Write, Lock, Unlock, Barrier, Region, Chunk, End, Update}
-use Rattle.log_format.specs.declared.record.Why.TheVariants as why
-use Rattle.log_format.specs.Table.{HasAddress, HasSize, IsAccessSize}
+use Rattle.log_format.specs.Table.{HasAddress, HasSize}
 use Rattle.race_model.specs.Trace.{Logs, Node, HasKind, regions_before, barriers_before, is_region_kind, is_barrier_kind}
 use Rattle.race_model.specs.Race.{held_after, held_after_kind}
 use Rattle.race_model.specs.Label.{Triple, IsLabel}
@@ -23,7 +23,7 @@ use Rattle.log_segment.specs.Accesses.{key_at}
 use Rattle.log_segment.specs.declared.segment.Segment.{Segment}
 use Rattle.log_segment.specs.declared.walking.Walk.{Walk}
 use Rattle.log_segment.specs.Intervals.{HasEvent, IsSegmentOf}
-use Rattle.log_segment.specs.Walking.{AddsSegments, begun_after, event_after, ended, ended_by, AreNumbered, KeepsFork, AreForks, Follows, IsNextOf, SumsUp, GainsAccess, HasSum, IsClosed, OrdersInLane, is_open}
+use Rattle.log_segment.specs.Walking.{AddsSegments, begun_after, event_after, ended, ended_by, AreNumbered, KeepsFork, AreForks, Follows, IsNextOf, SumsUp, GainsAccess, HasSum, IsClosed, OrdersInLane, has_summary}
 use Rattle.log_segment.proofs.Members.{In, from_contains, to_contains, in_left, in_right, in_either}
 use Rattle.log_segment.proofs.LabelMoves.{found_next, regions_next, barriers_next, moved}
 
@@ -227,7 +227,7 @@ module _ (logs : Logs) (path : List Step) (before : List Record) (r : Record) (n
   not_ordering Update is = (refl, refl)
 
   pub follows_access : (walk new : Walk) (begun : List Event) (held : List ℕ) → is_access r.kind ≡ true → held ≡ held_after [] (before ++ r ∷ [])
-      → GainsAccess walk.summary new.summary (key_at r held) r.addr → new ≡ record walk { summary = new.summary }
+      → GainsAccess walk.summary new.summary (key_at r held) r.addr → new ≡ record walk { summary = new.summary; spare = new.spare }
       → Follows logs path before walk begun → Follows logs path (before ++ r ∷ []) new (begun_after r.kind (event_after before r) begun)
   follows_access walk new begun held is held_is gains same f =
       let plain = not_ordering r.kind is in
@@ -351,7 +351,7 @@ module _ (logs : Logs) (path : List Step) (before : List Record) (r : Record) (n
 
   -- the same where the segment was closed before
   pub closed_region : (walk mid new : Walk) (begun : List Event) (last : ℕ) → r.kind ≡ Region → last ≡ length before
-      → mid.first ≡ last + 2 → mid.summary ≡ None → mid ≡ record walk { first = mid.first; summary = mid.summary }
+      → mid.first ≡ last + 2 → mid.summary ≡ None → mid ≡ record walk { first = mid.first; summary = mid.summary; spare = mid.spare }
       → new.forks.items ≡ mid.forks.items ++ mid.label ∷ [] → new ≡ record mid { label = new.label; forks = new.forks }
       → ((above : List Triple) (own : Triple) → mid.label ≡ above ++ own ∷ [] → new.label ≡ above ++ record own { offset = own.offset + own.span } ∷ [])
       → Follows logs path before walk begun → Follows logs path (before ++ r ∷ []) new (begun_after r.kind (event_after before r) begun)
@@ -364,7 +364,7 @@ module _ (logs : Logs) (path : List Step) (before : List Record) (r : Record) (n
       (λ above own e. raised above own (label ∙ e)) f
 
   pub closed_barrier : (walk mid new : Walk) (begun : List Event) (last : ℕ) → r.kind ≡ Barrier → OrdersInLane r.kind path → last ≡ length before
-      → mid.first ≡ last + 2 → mid.summary ≡ None → mid ≡ record walk { first = mid.first; summary = mid.summary }
+      → mid.first ≡ last + 2 → mid.summary ≡ None → mid ≡ record walk { first = mid.first; summary = mid.summary; spare = mid.spare }
       → new ≡ record mid { label = new.label }
       → ((above : List Triple) (own : Triple) → mid.label ≡ above ++ own ∷ [] → new.label ≡ above ++ record own { barrier = own.barrier + 1 } ∷ [])
       → Follows logs path before walk begun → Follows logs path (before ++ r ∷ []) new (begun_after r.kind (event_after before r) begun)
@@ -401,7 +401,7 @@ adds_ended logs path before walk begun last old new is_last empty some f = go wa
   where
     one : (summary : Summary) → walk.summary ≡ Some summary → IsClosed path last walk summary old new → AddsSegments logs (ended path begun) old new
     one summary e c =
-        let has : has_access begun ≡ true = sym f.sums.begins ∙ ap (λ (o : Option Summary). is_open o) e in
+        let has : has_access begun ≡ true = sym f.sums.begins ∙ ap (λ (o : Option Summary). has_summary o) e in
         let long : 1 ≤ length begun = access_some begun has in
         let ends : last_number begun + 1 ≡ walk.first + length begun = last_is walk.first begun f.numbered long in
         let sums : SumsUp (Some summary) begun = subst (λ (o : Option Summary). SumsUp o begun) e f.sums in
@@ -428,7 +428,7 @@ adds_ended logs path before walk begun last old new is_last empty some f = go wa
     go None e = record {
       added = [];
       gains = empty e ∙ sym (append-nil old);
-      are = subst (λ (is : List Interval). AllZip (IsSegmentOf logs) is []) (sym (ended_none path begun (sym f.sums.begins ∙ ap (λ (o : Option Summary). is_open o) e))) tt;
+      are = subst (λ (is : List Interval). AllZip (IsSegmentOf logs) is []) (sym (ended_none path begun (sym f.sums.begins ∙ ap (λ (o : Option Summary). has_summary o) e))) tt;
     }
     go (Some summary) e = one summary e (some summary e)
 
@@ -438,9 +438,9 @@ kind_access k (inr (inl e)) = rw e refl
 kind_access k (inr (inr e)) = rw e refl
 
 -- an access fits a summary
-pub access_sized : (r : Record) → is_access r.kind ≡ true → HasSize r.kind r.size → IsAccessSize r.size
+pub access_sized : (r : Record) → is_access r.kind ≡ true → HasSize r.kind r.size → IsWidth r.size
 access_sized r is size = at r.kind is size where
-  at : (k : Kind) → is_access k ≡ true → HasSize k r.size → IsAccessSize r.size
+  at : (k : Kind) → is_access k ≡ true → HasSize k r.size → IsWidth r.size
   at Read e h = h
   at Write e h = h
   at Lock e h = cc

@@ -24,9 +24,9 @@ abbrev pub HasLogs : Logs → Trace → Type 0
 HasLogs logs trace = (task : TaskLog) → Contains trace task → logs task.path ≡ task.records
 
 -- whether an access was added
-abbrev pub is_open : Option Summary → Bool
-is_open None = false
-is_open (Some summary) = true
+abbrev pub has_summary : Option Summary → Bool
+has_summary None = false
+has_summary (Some summary) = true
 
 -- whether an access was added after the last Region or Barrier, once a record of this kind is passed
 abbrev pub open_after : Kind → Bool → Bool
@@ -47,7 +47,7 @@ HasSum (Some summary) key address = IsSummed summary key address
 
 -- the accesses are those of before and this one
 pub record GainsAccess (old new : Option Summary) (key : Key) (address : ℕ) : Type 0 where
-  pub opened : is_open new ≡ true
+  pub opened : has_summary new ≡ true
   pub pairs : (other : Key) (place : ℕ) → HasSum new other place ↔ (HasSum old other place ⊎ ((key ≡ other) × (address ≡ place)))
 
 -- the segments that were added are these of the model
@@ -106,7 +106,7 @@ pub record AreForks (logs : Logs) (path : List Step) (n : ℕ) (forks : List (Li
 
 -- these events' accesses were added
 pub record SumsUp (summary : Option Summary) (begun : List Event) : Type 0 where
-  pub begins : is_open summary ≡ has_access begun
+  pub begins : has_summary summary ≡ has_access begun
   pub pairs : (key : Key) (address : ℕ) → HasSum summary key address ↔ HasEvent (filter is_access_event begun) key address
 
 -- what is kept after these records of a log

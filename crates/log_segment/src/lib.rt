@@ -7,8 +7,10 @@
 
 mod beginning;
 mod segment;
+mod spare;
 mod walking;
 
 pub use beginning::first_label;
 pub use segment::Segment;
+pub use spare::Spare;
 pub use walking::Walk;

@@ -1,22 +1,25 @@
 //! Going over the records of one log.
 ghost use Rattle.std.specs.Prelude.{◌≡◌, ◌≢◌, ◌↔◌, true, cond, ◌+◌, ◌-◌, ◌^◌, ◌<◌, ◌≤◌, ℕ, List, [], ◌∷◌, ◌++◌, length, Some, None, OnOk, IfOk};
 ghost use Rattle.std.specs.Option.{ForSome};
+ghost use Rattle.log_format.specs.Fitting.{IsWidth};
+ghost use Rattle.log_format.specs.Limit.{record_limit};
 ghost use Rattle.sw_base.specs.declared.path.Step.{Step};
 ghost use Rattle.log_format.specs.declared.record.Record.{Record};
-ghost use Rattle.log_format.specs.Table.{HasAddress, HasSize, IsAccessSize};
-ghost use Rattle.race_model.specs.IndexFault.{max_records};
+ghost use Rattle.log_format.specs.Table.{HasAddress, HasSize};
 ghost use Rattle.race_model.specs.Label.{Triple};
 ghost use Rattle.race_model.specs.Race.{held_after};
 ghost use Rattle.race_model.specs.Segment.{Event};
 ghost use Rattle.race_model.specs.Trace.{Logs, is_region_kind};
 ghost use Rattle.span_label.specs.Levels.{own_level};
+ghost use Rattle.stride_summary.specs.Summary.{IsSummed};
 ghost use Rattle.stride_summary.specs.declared.summary.Summary.{Summary};
 ghost use Rattle.stride_summary.specs.declared.key.Key.{Key};
 ghost use Rattle.log_segment.specs.Accesses.{is_atomic, is_write, key_at};
 ghost use Rattle.log_segment.specs.declared.segment.Segment.{Segment};
-ghost use Rattle.log_segment.specs.Walking.{AddsSegments, Follows, GainsAccess, HasSum, IsClosed, IsNextOf, IsOwnAfter, OrdersInLane, begun_after, ended_by, event_after, is_open, open_after};
+ghost use Rattle.log_segment.specs.Walking.{AddsSegments, Follows, GainsAccess, HasSum, IsClosed, IsNextOf, IsOwnAfter, OrdersInLane, begun_after, ended_by, event_after, has_summary, open_after};
 
 use crate::segment::Segment;
+use crate::spare::Spare;
 use log_format::{Kind, Record};
 use mutex_set::Held;
 use span_label::Label;
@@ -66,6 +69,8 @@ pub struct Walk {
     pub summary: Option<Summary>,
     /// The label of each Region so far.
     pub forks: Vec<Label>,
+    /// A summary for the next accesses, so that an interval needs no room of its own.
+    pub spare: Option<Spare>,
 }
 
 impl Walk {
@@ -81,6 +86,7 @@ impl Walk {
             first: 1,
             summary: None,
             forks: Vec::new(alloc),
+            spare: None,
         }
     }
 
@@ -95,14 +101,14 @@ impl Walk {
         found: &mut Vec<Segment>,
     ) -> Result<(), Memory>
         requires from_one { 1 ≤ number }
-        requires number { number ≤ max_records }
+        requires number { number ≤ record_limit }
         requires own { IsOwnAfter self.old.label number }
         requires size { HasSize next.now.kind next.now.size }
         requires address { HasAddress next.now.kind next.now }
         requires lane { OrdersInLane next.now.kind path.now }
         ensures own { OnOk result (IsOwnAfter self.new.label (number + 1)) }
         ensures forks { OnOk result (length self.new.forks.items ≡ length self.old.forks.items + cond (is_region_kind next.now.kind) 1 0) }
-        ensures begun { OnOk result (is_open self.new.summary ≡ open_after next.now.kind (is_open self.old.summary)) }
+        ensures begun { OnOk result (has_summary self.new.summary ≡ open_after next.now.kind (has_summary self.old.summary)) }
         ensures follows { (logs : Logs) (before : List Record) (begun : List Event) → IsNextOf logs path.now before next.now → number ≡ length before + 1
             → held.now ≡ held_after [] (before ++ next.now ∷ []) → Follows logs path.now before self.old begun
             → OnOk result (Follows logs path.now (before ++ next.now ∷ []) self.new (begun_after next.now.kind (event_after before next.now) begun)) }
@@ -133,35 +139,37 @@ impl Walk {
         ensures added { OnOk result ((summary : Summary) → self.old.summary ≡ Some summary → IsClosed path.now last self.old summary found.old.items found.new.items) }
         ensures first { self.new.first ≡ last + 2 }
         ensures summary { self.new.summary ≡ None }
-        ensures same { self.new ≡ record self.old { first = self.new.first; summary = self.new.summary } }
+        ensures same { self.new ≡ record self.old { first = self.new.first; summary = self.new.summary; spare = self.new.spare } }
     {
         let first = self.first;
         self.first = last + 2;
-        let Some(summary) = self.summary.take() else {
+        let Some(mut summary) = self.summary.take() else {
             return Ok(());
         };
+        let runs = summary.take_runs();
+        self.spare = Some(Spare::of(summary));
         found.push(Segment {
             path: path.copy(),
             first,
             last,
             label: self.label.copy(),
-            runs: summary.finish(),
+            runs,
         })?;
         Ok(())
     }
 
     /// Whether an access was added since the last Region or Barrier.
     pub fn is_open(&self) -> bool
-        ensures { result ≡ is_open self.now.summary }
+        ensures { result ≡ has_summary self.now.summary }
     {
         self.summary.is_some()
     }
 
     // Begins to add accesses, where none was added since the last Region or Barrier.
     fn begin(&mut self, alloc: Global) -> Result<(), Memory>
-        ensures begun { OnOk result (is_open self.new.summary ≡ true) }
+        ensures begun { OnOk result (has_summary self.new.summary ≡ true) }
         ensures sums { OnOk result ((key : Key) (address : ℕ) → HasSum self.new.summary key address ↔ HasSum self.old.summary key address) }
-        ensures same { self.new ≡ record self.old { summary = self.new.summary } }
+        ensures same { self.new ≡ record self.old { summary = self.new.summary; spare = self.new.spare } }
     {
         if self.summary.is_none() {
             self.start(alloc)?;
@@ -172,19 +180,31 @@ impl Walk {
     // Takes an empty summary. It stands apart, so that an access needs no room for it.
     #[inline(never)]
     fn start(&mut self, alloc: Global) -> Result<(), Memory>
-        ensures begun { OnOk result (is_open self.new.summary ≡ true) }
+        ensures begun { OnOk result (has_summary self.new.summary ≡ true) }
         ensures none { OnOk result ((key : Key) (address : ℕ) → HasSum self.new.summary key address → ⊥) }
-        ensures same { self.new ≡ record self.old { summary = self.new.summary } }
+        ensures same { self.new ≡ record self.old { summary = self.new.summary; spare = self.new.spare } }
     {
-        self.summary = Some(Summary::new(alloc)?);
+        let summary = self.empty_summary(alloc)?;
+        self.summary = Some(summary);
         Ok(())
     }
 
+    // A summary of no access: the one that is kept, or a new one.
+    fn empty_summary(&mut self, alloc: Global) -> Result<Summary, Memory>
+        ensures none { IfOk result (λ summary. (key : Key) (address : ℕ) → IsSummed summary key address → ⊥) }
+        ensures same { self.new ≡ record self.old { spare = self.new.spare } }
+    {
+        match self.spare.take() {
+            Some(spare) => Ok(spare.into_summary()),
+            None => Summary::new(alloc),
+        }
+    }
+
     fn access(&mut self, alloc: Global, event: &Record, held: &Held) -> Result<(), Memory>
-        requires size { IsAccessSize event.now.size }
+        requires size { IsWidth event.now.size }
         requires end { event.now.addr + event.now.size ≤ 2 ^ 48 }
         ensures added { OnOk result (GainsAccess self.old.summary self.new.summary (key_at event.now held.now) event.now.addr) }
-        ensures same { self.new ≡ record self.old { summary = self.new.summary } }
+        ensures same { self.new ≡ record self.old { summary = self.new.summary; spare = self.new.spare } }
     {
         let access = Access {
             write: is_write(event.kind),

@@ -49,7 +49,7 @@ abbrev pub BringsPart : List ℕ → Trace → Content → Option Content → Ty
 BringsPart new trace old now = (now ≡ Some old) ⊎ PutsLogs new trace (Some old) now
 
 -- what it costs to bring logs over: a read or a write that failed is counted, and is the cause of an answer that says so
-pub record CountsFaults {T : Type 0} (reads reads' : ℕ) (before after : FolderState) (result : Result T UpgradeFault) : Type 0 where
+pub record CountsBringing {T : Type 0} (reads reads' : ℕ) (before after : FolderState) (result : Result T UpgradeFault) : Type 0 where
   pub later : reads ≤ reads'
   pub only_reads : (w : WalkFault) → IsErrOf result (Walk w) → (w ≡ ReadFault) × Rose reads reads'
   pub no_read_fault : (IsErrOf result (Walk ReadFault) → ⊥) → reads' ≡ reads

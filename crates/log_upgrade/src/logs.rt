@@ -13,7 +13,7 @@ ghost use Rattle.race_model.specs.LogFault.{IsWholeLog};
 ghost use Rattle.race_model.specs.Trace.{Trace};
 ghost use Rattle.log_reader.specs.Reading.{StandsBefore};
 ghost use Rattle.log_index.specs.Puts.{with_tasks};
-ghost use Rattle.log_upgrade.specs.Upgrade.{BringsPart, CanBring, CountsFaults};
+ghost use Rattle.log_upgrade.specs.Upgrade.{BringsPart, CanBring, CountsBringing};
 
 use crate::fault::{UpgradeFault, unread, unwritten};
 use log_format::{FORMAT, Format, encode};
@@ -88,7 +88,7 @@ fn bring_log<F: Folder>(
         → OnOk result ((F.state folder.new).content ≡ Some (with_put (log_name new.now path.now) (log_bytes (log_header FORMAT) events) c))) }
     ensures refused { WhereTold (F.state folder.old).content (λ c. (events : List Record) → IsWholeLog First c.held dir.now path.now events → records ≡ length events
         → OnErr result (LeavesPrefix (Some c) (F.state folder.new).content (log_name new.now path.now) (log_bytes (log_header FORMAT) events))) }
-    ensures counts { CountsFaults (F.read_faults folder.old) (F.read_faults folder.new) (F.state folder.old) (F.state folder.new) result }
+    ensures counts { CountsBringing (F.read_faults folder.old) (F.read_faults folder.new) (F.state folder.old) (F.state folder.new) result }
 {
     let bytes = match spell_log(alloc, folder, reader, dir, path, records) {
         Ok(bytes) => bytes,
@@ -112,7 +112,7 @@ pub fn bring_logs<F: Folder>(
         → OnOk result ((F.state folder.new).content ≡ Some (with_tasks new.now trace c))) }
     ensures refused { WhereTold (F.state folder.old).content (λ c. (trace : Trace) → CanBring c.held dir.now new.now rows.now trace
         → OnErr result (BringsPart new.now trace c (F.state folder.new).content)) }
-    ensures counts { CountsFaults (F.read_faults folder.old) (F.read_faults folder.new) (F.state folder.old) (F.state folder.new) result }
+    ensures counts { CountsBringing (F.read_faults folder.old) (F.read_faults folder.new) (F.state folder.old) (F.state folder.new) result }
 {
     let mut reader = LogReader::new(alloc)?;
     'rows: for row in rows {

@@ -1,34 +1,57 @@
--- What the window shows of the bytes that are left of a log.
-use Rattle.std.proofs.Common.{◌≡◌, ℕ, ◌+◌, ◌<◌, ◌≤◌, List, [], ◌∷◌, ◌++◌, length, take, drop, refl, sym, ap, subst, ◌∙◌, arith}
-use Rattle.std.proofs.lemmas.List.{append-nil, length-take, length-drop, drop-drop, drop_all}
-use Rattle.sw_base.specs.Window.{Window, Shows, skipped}
-use Rattle.sw_base.proofs.Windows.{shows_skipped}
+-- What is left of a log of which the first records were gone over.
+use Rattle.std.proofs.Common.{◌≡◌, ℕ, ◌<◌, List, [], ◌∷◌, ◌++◌, length, take, drop, Option, Some, None, refl, sym, ap, ◌∙◌, arith}
+use Rattle.std.specs.Option.{option_map}
+use Rattle.std.proofs.lemmas.List.{append-nil, append_assoc, length-take}
+use Rattle.std.proofs.lemmas.Option.{none-some, same_Some}
 use Rattle.log_format.specs.declared.format.Format.{Format}
 use Rattle.log_format.specs.Format.{log_header}
 use Rattle.log_format.specs.declared.record.Record.{Record}
 use Rattle.log_format.specs.Spelling.{spelling, log_bytes}
-use Rattle.log_walk.specs.declared.state.State.{State}
 use Rattle.log_format.specs.Table.{Spells}
+use Rattle.log_format.proofs.Logs.{log_bytes-append}
 use Rattle.race_model.specs.LogFault.{LogTask}
 use Rattle.log_walk.specs.Check.{IsGoodLog}
-use Rattle.log_walk.specs.LogSoFar.{Checks, IsReadTo}
-use Rattle.log_walk.proofs.SoFar.{PassesRecord, begins}
+use Rattle.log_walk.specs.LogSoFar.{Checks}
+use Rattle.log_walk.specs.Unread.{unread}
+use Rattle.log_walk.specs.declared.state.State.{State}
+use Rattle.log_walk.proofs.SoFar.{begins}
 
 -- fewer bytes are ahead, so fewer are left
 pub short_left : (ahead rest : List ℕ) → take 24 ahead ≡ take 24 rest → length ahead < 24 → length rest < 24
 short_left ahead rest same short = omega (arith, short, ap length same, length-take 24 ahead, length-take 24 rest)
 
--- a whole record is ahead, so it is left
-pub whole_left : (ahead rest : List ℕ) → 24 ≤ length ahead → take 24 ahead ≡ take 24 rest → 24 ≤ length rest
-whole_left ahead rest whole same = omega (arith, whole, ap length same, length-take 24 ahead, length-take 24 rest)
+-- no byte is ahead, so none is left
+pub none_left : (ahead more : List ℕ) → take 1 ahead ≡ take 1 (ahead ++ more) → length ahead ≡ 0 → ahead ++ more ≡ []
+none_left [] [] same none = refl
+none_left [] (x ∷ more) same none = cc same
+none_left (x ∷ ahead) more same none = cc none
 
--- the file is so long, so no byte is left
-pub none_left : (file : List ℕ) (place size : ℕ) → size ≡ length file → size ≤ place → drop place file ≡ []
-none_left file place size is ended = drop_all place file (omega (arith, is, ended))
+-- what is left of a log of which the bytes are told
+pub record LeftOf (format : Format) (records : List Record) (ahead : List ℕ) (rest : Option (List ℕ)) (file : List ℕ) : Type 0 where
+  pub more : List ℕ
+  pub told : unread ahead rest ≡ Some (ahead ++ more)
+  pub parts : file ≡ log_bytes (log_header format) records ++ (ahead ++ more)
 
--- it is longer, so a byte is left
-pub some_left : (file : List ℕ) (place size : ℕ) → size ≡ length file → place < size → 0 < length (drop place file)
-some_left file place size is longer = omega (arith, is, longer, length-drop place file)
+pub left_of : {format : Format} (records : List Record) (bytes : Option (List ℕ)) (ahead : List ℕ) (rest : Option (List ℕ)) (file : List ℕ) → bytes ≡ option_map (λ (left : List ℕ). log_bytes (log_header format) records ++ left) (unread ahead rest)
+    → bytes ≡ Some file → LeftOf format records ahead rest file
+left_of records bytes ahead None file read is = absurd (none-some file (sym read ∙ is))
+left_of {format} records bytes ahead (Some more) file read is =
+    record { more = more; told = refl; parts = same_Some file (log_bytes (log_header format) records ++ (ahead ++ more)) (sym is ∙ read) }
+
+-- before the first record
+pub begins_left : (format : Format) (bytes left : Option (List ℕ)) → bytes ≡ option_map (λ (rest : List ℕ). log_header format ++ rest) left → bytes ≡ option_map (λ (rest : List ℕ). log_bytes (log_header format) [] ++ rest) left
+begins_left format bytes left read = read ∙ ap (λ (header : List ℕ). option_map (λ (rest : List ℕ). header ++ rest) left) (sym (append-nil (log_header format)))
+
+-- past a record
+pub passes_left : {format : Format} (records : List Record) (r : Record) (next ahead later : List ℕ) (rest : Option (List ℕ)) → next ≡ take 24 ahead → later ≡ drop 24 ahead → Spells format next r
+    → option_map (λ (left : List ℕ). log_bytes (log_header format) records ++ left) (unread ahead rest) ≡ option_map (λ (left : List ℕ). log_bytes (log_header format) (records ++ r ∷ []) ++ left) (unread later rest)
+passes_left records r next ahead later None is left spells = refl
+passes_left {format} records r next ahead later (Some rest) is left spells =
+    let before : List ℕ = log_bytes (log_header format) records in
+    ap Some (ap (λ (bs : List ℕ). before ++ (bs ++ rest)) (begins ahead next r is spells ∙ ap (λ (bs : List ℕ). spelling r ++ bs) (sym left))
+    ∙ ap (λ (bs : List ℕ). before ++ bs) (append_assoc (spelling r) later rest)
+    ∙ sym (append_assoc before (spelling r) (later ++ rest))
+    ∙ ap (λ (bs : List ℕ). bs ++ (later ++ rest)) (sym (log_bytes-append (log_header format) records (r ∷ []) ∙ ap (λ (bs : List ℕ). before ++ bs) (append-nil (spelling r)))))
 
 -- the records of a log that is good
 pub good_log : {format : Format} (task : LogTask) (opened : ℕ) (state : State) (records : List Record) (index : ℕ) → Checks format task opened state records index → index ≡ task.records
@@ -41,18 +64,3 @@ good_log task opened state records index checks all = record {
   sum = checks.follows.segments;
   limit = checks.limit;
 }
-
--- its bytes
-pub whole_log : {format : Format} (file : List ℕ) (records : List Record) (window : Window) → IsReadTo format file records window → drop window.place file ≡ [] → file ≡ log_bytes (log_header format) records
-whole_log {format} file records window read none = read.parts ∙ ap (λ (bs : List ℕ). log_bytes (log_header format) records ++ bs) none ∙ append-nil (log_bytes (log_header format) records)
-
--- the window goes past a record
-pub passes : {format : Format} (file next : List ℕ) (r : Record) (old filled new : Window) → Shows filled file → filled.place ≡ old.place → 24 ≤ length filled.ahead → new ≡ skipped 24 filled
-    → next ≡ take 24 (drop old.place file) → Spells format next r → PassesRecord file r old new
-passes file next r old filled new shows place there is next_is spells = record {
-  shows = subst (λ (w : Window). Shows w file) (sym is) (shows_skipped filled file 24 there shows);
-  parts = begins (drop old.place file) next r next_is spells
-      ∙ ap (λ (bs : List ℕ). spelling r ++ bs) (drop-drop 24 old.place file ∙ ap (λ (n : ℕ). drop n file) (sym at));
-} where
-  at : new.place ≡ old.place + 24
-  at = ap (λ (w : Window). w.place) is ∙ ap (λ (n : ℕ). n + 24) place

@@ -22,5 +22,6 @@ pub mod Sweeping
 pub mod Taken
 pub mod TaskAt
 pub mod TaskReads
+pub mod Unread
 pub mod WalkMoves
 pub mod RowsApart

@@ -4,9 +4,8 @@ use Rattle.std.specs.Prelude.{slice_get}
 use Rattle.std.proofs.lemmas.List.{length_push}
 use Rattle.std.proofs.lemmas.List.Elements.{Contains-push}
 use Rattle.sw_base.specs.declared.path.Step.{Step}
-use Rattle.sw_base.specs.Environment.{Content, WhereTold}
+use Rattle.sw_base.specs.Environment.{Content}
 use Rattle.sw_base.specs.Names.{log_name}
-use Rattle.sw_base.specs.Window.{file_of}
 use Rattle.log_format.specs.declared.format.Format.{Format}
 use Rattle.log_format.specs.Format.{log_header}
 use Rattle.log_format.specs.Spelling.{log_bytes}
@@ -22,6 +21,7 @@ use Rattle.log_segment.specs.declared.segment.Segment.{Segment}
 use Rattle.log_walk.specs.Check.{ChecksLog}
 use Rattle.log_walk.specs.Rules.{log_task_of}
 use Rattle.log_walk.specs.Stack.{IsStackAfter, WalksTask, counts_with}
+use Rattle.log_walk.specs.Unread.{OpensFile}
 use Rattle.log_walk.specs.Walk.{IsTaskOf, IsNextTask}
 use Rattle.log_walk.specs.declared.check.Checked.{Checked}
 use Rattle.log_walk.specs.declared.stack.Stack.{Stack}
@@ -38,14 +38,14 @@ pub record Pushed (path : List Step) (old new : Stack) (checked : Checked) (coun
   pub forks : new.forks.items ≡ take (length path) old.forks.items ++ checked.forks ∷ []
   pub barriers : new.barriers.items ≡ counts_with path old.barriers.items count
 
-pub walks_task : {format : Format} (told : Option Content) (dir name : List ℕ) (rows : List Row) (stack now : Stack) (trace : Trace) (row : Row) (task : Task) (label : List Triple) (checked : Checked) (count : ℕ) (old new : List Segment)
+pub walks_task : {format : Format} (told : Option Content) (dir : List ℕ) (bytes : Option (List ℕ)) (rows : List Row) (stack now : Stack) (trace : Trace) (row : Row) (task : Task) (label : List Triple) (checked : Checked) (count : ℕ) (old new : List Segment)
     → AreRows rows → IsStackAfter format rows stack trace → slice_get rows (length trace) ≡ Some row → IsTaskOf rows trace row (log_task_of task)
-    → ChecksLog format told name task stack.segments label checked old new → WhereTold told (λ c. c.held (log_name dir row.path) ≡ Some (file_of c name))
+    → ChecksLog format bytes task stack.segments label checked old new → OpensFile told (log_name dir row.path) bytes
     → ((logs : Logs) → HasLogs logs trace → IsLabel logs (record { path = row.path; index = 0 }) label)
     → Pushed row.path stack now checked count
     → ((n : ℕ) → task.due_barriers ≡ Some n → count ≡ n) → (task.due_barriers ≡ None → count ≡ checked.barriers)
     → WalksTask format told dir rows now trace row old new
-walks_task {format} told dir name rows stack now trace row task label checked count old new good_rows stands found is checks there labels pushed some none = record {
+walks_task {format} told dir bytes rows stack now trace row task label checked count old new good_rows stands found is checks there labels pushed some none = record {
   records = checks.records;
   counted = next.counted;
   stands = record {
@@ -57,8 +57,10 @@ walks_task {format} told dir name rows stack now trace row task label checked co
     teams = λ other at. teams_next stack now trace t other.path count (goes other at) (stands.teams row found)
         (own_team trace row.path checks.records task.due_barriers checked.barriers count is.team checks.barriers some none) pushed.barriers;
   };
-  whole = λ c is_told. next_whole c.held dir rows trace row (log_task_of task) (log_bytes (log_header format) checks.records) stack.segments checks.records checked.segments is
-      (there c is_told ∙ ap (λ (bs : List ℕ). Some bs) (checks.whole c is_told)) checks.good;
+  whole = λ c is_told.
+      (let file = there c is_told in
+      next_whole c.held dir rows trace row (log_task_of task) (log_bytes (log_header format) checks.records) stack.segments checks.records checked.segments is
+      (file.1 ∙ ap (λ (bs : List ℕ). Some bs) (checks.whole file.0 file.2)) checks.good);
   adds = λ logs has. walks.segments logs (has t (Contains-push trace t)) (labels logs (logs_before logs trace t has));
 }
   where

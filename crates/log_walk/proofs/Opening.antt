@@ -7,7 +7,7 @@ use Rattle.log_format.specs.declared.record.Kind.TheVariants.{Read, Write, Lock,
 use Rattle.race_model.specs.Race.{held_after_kind}
 use Rattle.race_model.specs.Segment.{Event, events_from, runs_of, with_event, in_first, has_access, is_access, is_access_event, segment_count}
 use Rattle.log_segment.specs.Walking.{open_after}
-use Rattle.log_walk.specs.Check.{opens_by, is_open}
+use Rattle.log_walk.specs.Check.{opens_by, is_open_after}
 
 -- how many segments the records open, where one is open before them or not
 abbrev pub opened_by : Bool → List Record → ℕ
@@ -16,13 +16,13 @@ opened_by open_before (r ∷ records) = opens_by r.kind open_before + opened_by 
 
 -- one record more
 pub opened_by-push : (open_before : Bool) (records : List Record) (r : Record)
-    → opened_by open_before (records ++ r ∷ []) ≡ opened_by open_before records + opens_by r.kind (is_open open_before records)
+    → opened_by open_before (records ++ r ∷ []) ≡ opened_by open_before records + opens_by r.kind (is_open_after open_before records)
 opened_by-push open_before [] r = omega arith
 opened_by-push open_before (s ∷ records) r =
     omega (arith, opened_by-push (open_after s.kind open_before) records r)
 
 pub is_open-push : (open_before : Bool) (records : List Record) (r : Record)
-    → is_open open_before (records ++ r ∷ []) ≡ open_after r.kind (is_open open_before records)
+    → is_open_after open_before (records ++ r ∷ []) ≡ open_after r.kind (is_open_after open_before records)
 is_open-push open_before [] r = refl
 is_open-push open_before (s ∷ records) r = is_open-push (open_after s.kind open_before) records r
 
@@ -142,10 +142,10 @@ segment_count-opened records =
     ap count (sym (with_prefix-nil (events_from 1 [] records))) ∙ count_runs 1 [] records [] ∙ omega arith
 
 -- one record more
-pub segment_count-push : (records : List Record) (r : Record) → segment_count (records ++ r ∷ []) ≡ segment_count records + opens_by r.kind (is_open false records)
+pub segment_count-push : (records : List Record) (r : Record) → segment_count (records ++ r ∷ []) ≡ segment_count records + opens_by r.kind (is_open_after false records)
 segment_count-push records r =
     segment_count-opened (records ++ r ∷ []) ∙ opened_by-push false records r
-    ∙ ap (λ (n : ℕ). n + opens_by r.kind (is_open false records)) (sym (segment_count-opened records))
+    ∙ ap (λ (n : ℕ). n + opens_by r.kind (is_open_after false records)) (sym (segment_count-opened records))
 
 -- a prefix has no more
 pub segment_count-take : (records : List Record) (n : ℕ) → segment_count (take n records) ≤ segment_count records

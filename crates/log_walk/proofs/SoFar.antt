@@ -1,10 +1,9 @@
 -- A log that was read so far: what its next bytes say of it.
-use Rattle.std.proofs.Common.{◌≡◌, ◌⊎◌, inl, inr, ℕ, ◌+◌, ◌<◌, ◌≤◌, List, [], ◌∷◌, ◌++◌, length, take, drop, Some, refl, sym, ap, subst, ◌∙◌, arith, append_assoc, append-nil, All}
+use Rattle.std.proofs.Common.{◌≡◌, ◌⊎◌, inl, inr, ℕ, ◌+◌, ◌<◌, ◌≤◌, List, [], ◌∷◌, ◌++◌, length, take, drop, Some, refl, sym, ap, subst, ◌∙◌, arith, All}
 use Rattle.std.specs.Prelude.{slice_get}
 use Rattle.std.proofs.lemmas.List.{length-append, take_at, take-append-drop, take-append-le, get_or_append_left, get_or_push}
 use Rattle.std.proofs.lemmas.Bool.{cases_order}
 use Rattle.std.proofs.lemmas.Option.{slice_get_within}
-use Rattle.sw_base.specs.Window.{Window, Shows}
 use Rattle.sw_base.proofs.Lists.{get_left, get_seam}
 use Rattle.log_format.specs.declared.format.Format.{Format}
 use Rattle.log_format.specs.Format.{log_header}
@@ -12,7 +11,6 @@ use Rattle.log_format.specs.declared.record.Record.{Record}
 use Rattle.log_format.specs.declared.record.Why.{Why}
 use Rattle.log_format.specs.Spelling.{spelling, log_bytes}
 use Rattle.log_format.specs.Table.{IsTabled, Spells, IsFirstFault}
-use Rattle.log_format.proofs.Logs.{log_bytes-append}
 use Rattle.race_model.specs.declared.why.RecordWhy.{RecordWhy}
 use Rattle.race_model.specs.declared.why.RecordWhy.TheVariants as log
 use Rattle.race_model.specs.BadPlace.{record_rank, last_rank}
@@ -22,17 +20,12 @@ use Rattle.log_walk.specs.declared.check.LogFault.{LogFault}
 use Rattle.log_walk.specs.declared.check.LogFault.TheVariants as fault
 use Rattle.log_walk.specs.declared.state.State.{State}
 use Rattle.log_walk.specs.Check.{KeepsLogRules, NothingBefore, of_why, IsLogRefused, IsNextRefused}
-use Rattle.log_walk.specs.LogSoFar.{Checks, IsReadTo}
+use Rattle.log_walk.specs.LogSoFar.{Checks}
 use Rattle.log_walk.specs.Rules.{BreaksNone}
 use Rattle.log_walk.specs.State.{IsStateAfter}
 use Rattle.log_walk.proofs.Next.{next_cut, next_untabled, before_next, before_cut, before_untabled, before_broken}
 use Rattle.race_laws.proofs.LogFaults.{past_end}
 use Rattle.log_walk.proofs.Opening.{segment_count-push}
-
--- the window went past this record of the file
-pub record PassesRecord (file : List ℕ) (r : Record) (old new : Window) : Type 0 where
-  pub shows : Shows new file
-  pub parts : drop old.place file ≡ spelling r ++ drop new.place file
 
 -- these records were read of a log, and the rest is left
 pub record SoFar (format : Format) (bytes : List ℕ) (task : LogTask) (opened : ℕ) (state : State) (records : List Record) (rest : List ℕ) (index : ℕ) : Type 0 where
@@ -107,30 +100,10 @@ checks_next {format} task opened state now records pushed index r checks tabled 
       limit = limit;
     })
 
-log_bytes_none : (format : Format) (records : List Record) → records ≡ [] → log_bytes (log_header format) records ≡ log_header format
-log_bytes_none format records none = ap (λ (rs : List Record). log_bytes (log_header format) rs) none ∙ append-nil (log_header format)
-
-pub read_none : {format : Format} (file : List ℕ) (records : List Record) (window : Window) → records ≡ [] → window.place ≡ 8 → Shows window file → file ≡ log_header format ++ drop 8 file → IsReadTo format file records window
-read_none {format} file records window none place shows parts = record {
-  shows = shows;
-  parts = parts
-      ∙ ap (λ (bs : List ℕ). bs ++ drop 8 file) (sym (log_bytes_none format records none))
-      ∙ ap (λ (n : ℕ). log_bytes (log_header format) records ++ drop n file) (sym place);
-}
-
-pub read_next : {format : Format} (file : List ℕ) (records pushed : List Record) (r : Record) (old new : Window) → IsReadTo format file records old → PassesRecord file r old new → pushed ≡ records ++ r ∷ [] → IsReadTo format file pushed new
-read_next {format} file records pushed r old new read passes is =
-    subst (λ (rs : List Record). IsReadTo format file rs new) (sym is) (record {
-      shows = passes.shows;
-      parts = read.parts ∙ ap (λ (bs : List ℕ). log_bytes (log_header format) records ++ bs) passes.parts
-          ∙ sym (append_assoc (log_bytes (log_header format) records) (spelling r) (drop new.place file))
-          ∙ ap (λ (bs : List ℕ). bs ++ drop new.place file) (sym (log_bytes-append (log_header format) records (r ∷ []) ∙ ap (λ (bs : List ℕ). log_bytes (log_header format) records ++ bs) (append-nil (spelling r))));
-    })
-
-pub so_far : {format : Format} (file : List ℕ) (task : LogTask) (opened : ℕ) (state : State) (records : List Record) (window : Window) (index : ℕ) → Checks format task opened state records index → IsReadTo format file records window
-    → SoFar format file task opened state records (drop window.place file) index
-so_far file task opened state records window index checks read = record {
-  read = record { parts = read.parts; tabled = checks.tabled };
+pub so_far : {format : Format} (file : List ℕ) (task : LogTask) (opened : ℕ) (state : State) (records : List Record) (rest : List ℕ) (index : ℕ) → Checks format task opened state records index
+    → file ≡ log_bytes (log_header format) records ++ rest → SoFar format file task opened state records rest index
+so_far file task opened state records rest index checks parts = record {
+  read = record { parts = parts; tabled = checks.tabled };
   keeps = checks.keeps;
   follows = checks.follows;
   count = checks.count;

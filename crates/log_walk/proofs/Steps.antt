@@ -5,7 +5,7 @@ use Rattle.log_format.specs.declared.record.Record.{Record}
 use Rattle.race_model.specs.Race.{held_after}
 use Rattle.race_model.specs.Trace.{is_region_kind, is_barrier_kind}
 use Rattle.log_walk.specs.declared.state.State.{State}
-use Rattle.log_segment.specs.Walking.{is_open as has_begun, open_after}
+use Rattle.log_segment.specs.Walking.{has_summary as has_begun, open_after}
 use Rattle.log_segment.specs.declared.walking.Walk.{Walk}
 use Rattle.log_walk.specs.Check.{opens_by}
 use Rattle.log_walk.specs.State.{IsStateAfter, IsWalkAfter, with_counted}

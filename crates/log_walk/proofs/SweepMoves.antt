@@ -25,7 +25,7 @@ use Rattle.log_walk.specs.Stack.{IsStackAfter, WalksTask}
 use Rattle.log_walk.specs.Sweep.{AnswersNext, AreRegions, BeginsSweep, Completes, GivesRegion, GivesSegments, HasRefused, HasSwept, HasSweptAll, IsRoot, RefusesIndexOrRoot, WalksRegion}
 use Rattle.sw_base.specs.declared.trouble.Trouble.{Trouble}
 use Rattle.sw_base.specs.declared.trouble.Trouble.TheVariants as trouble
-use Rattle.log_walk.specs.Walk.{RefusesLogOf, TellsFirstBad, Walked, of_trouble}
+use Rattle.log_walk.specs.Walk.{RefusesLogOf, TellsFirstBad, Walked, walk_fault}
 use Rattle.log_walk.specs.declared.fault.WalkFault.{WalkFault}
 use Rattle.log_walk.specs.declared.fault.WalkFault.TheVariants as fault
 use Rattle.log_walk.specs.declared.stack.Stack.{Stack}
@@ -345,10 +345,10 @@ pub root_listed_first : (rows : List Row) → AreRows rows → slice_get (paths_
 root_listed_first rows good = root_path (paths_of rows) good.lists
 
 -- a refusal that tells no place
-pub trouble_of : (IsOne : List Step → Type 0) (trouble : Trouble) → RefusesLogOf IsOne (of_trouble trouble)
+pub trouble_of : (IsOne : List Step → Type 0) (trouble : Trouble) → RefusesLogOf IsOne (walk_fault trouble)
 trouble_of IsOne trouble.Memory = tt
 trouble_of IsOne trouble.Failed = tt
 
-pub trouble_tells : (format : Format) (files : Files) (dir : List ℕ) (trouble : Trouble) → TellsFirstBad format files dir (of_trouble trouble)
+pub trouble_tells : (format : Format) (files : Files) (dir : List ℕ) (trouble : Trouble) → TellsFirstBad format files dir (walk_fault trouble)
 trouble_tells format files dir trouble.Memory = tt
 trouble_tells format files dir trouble.Failed = tt

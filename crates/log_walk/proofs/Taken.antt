@@ -1,14 +1,13 @@
 -- A log that was read before its turn.
-use Rattle.std.proofs.Common.{◌≡◌, ◌∙◌, ℕ, ◌+◌, ◌*◌, ◌<◌, ◌≤◌, false, List, [], ◌∷◌, ◌++◌, length, take, drop, Option, Some, None, refl, sym, ap, subst, inl, inr, arith, get_or}
-use Rattle.std.specs.Prelude.{All, slice_get, string_bytes, option_map, unwrap_or}
+use Rattle.std.proofs.Common.{◌≡◌, ◌∙◌, ℕ, ◌+◌, ◌-◌, ◌*◌, ◌<◌, ◌≤◌, false, List, [], ◌∷◌, ◌++◌, length, take, Option, Some, refl, sym, ap, subst, inl, inr, arith, get_or}
+use Rattle.std.specs.Prelude.{slice_get}
 use Rattle.std.proofs.lemmas.Bool.{cases_order}
 use Rattle.std.proofs.lemmas.List.{length-take-le, take_all}
 use Rattle.std.proofs.lemmas.List.Sums.{count_by_more_no}
-use Rattle.std.proofs.lemmas.Option.{none-some, same_Some, slice_get_within, get_or_from_slice_get}
+use Rattle.std.proofs.lemmas.Option.{same_Some, slice_get_within, get_or_from_slice_get}
 use Rattle.sw_base.specs.declared.path.Step.{Step}
-use Rattle.sw_base.specs.Environment.{Content, WhereTold}
+use Rattle.sw_base.specs.Environment.{Content}
 use Rattle.sw_base.specs.Names.{log_name}
-use Rattle.sw_base.specs.Window.{Window, file_of}
 use Rattle.log_format.specs.declared.format.Format.{Format}
 use Rattle.log_format.specs.declared.record.Kind.TheVariants.{End}
 use Rattle.log_format.specs.declared.record.Record.{Record}
@@ -24,23 +23,17 @@ use Rattle.log_segment.specs.declared.segment.Segment.{Segment}
 use Rattle.span_label.specs.Levels.{own_level}
 use Rattle.log_segment.specs.Walking.{IsOwnAfter, WalksLog}
 use Rattle.log_segment.proofs.OwnLevel.{own_last}
-use Rattle.log_walk.specs.Ahead.{StandsAsRead, IsBatch, IsGoneOver, IsAhead, IsSource}
+use Rattle.log_walk.specs.Ahead.{StandsAsRead, IsAhead}
 use Rattle.log_walk.specs.Check.{ChecksLog, IsGoodLog, KeepsLogRules}
-use Rattle.log_walk.specs.LogSoFar.{window_at}
 use Rattle.log_walk.specs.Rules.{log_task_of}
 use Rattle.log_walk.specs.Stack.{IsStackAfter, WalksTask}
+use Rattle.log_walk.specs.Unread.{OpensFile}
 use Rattle.log_walk.specs.Walk.{IsTaskOf}
 use Rattle.log_walk.specs.declared.ahead.Ahead.{Ahead}
-use Rattle.log_walk.specs.declared.ahead.Batch.{Batch}
 use Rattle.log_walk.specs.declared.check.Checked.{Checked}
 use Rattle.log_walk.specs.declared.stack.Stack.{Stack}
 use Rattle.log_walk.specs.declared.task.Task.{Task}
-use Rattle.log_walk.proofs.Left.{none_left, whole_log}
 use Rattle.log_walk.proofs.NextStack.{Pushed, walks_task}
-
--- nothing was read yet
-pub batch_begun : (format : Format) (told : Option Content) (dir : List ℕ) (rows : List Row) (batch : Batch) → All (IsSource told dir rows) batch.sources.items → batch.ahead.items ≡ [] → IsBatch format told dir rows batch
-batch_begun format told dir rows batch sources none = record { sources = sources; ahead = λ k d within. absurd (omega (arith, within, ap (λ (xs : List Ahead). length xs) none)) }
 
 -- where as many barriers are due as there are, the records keep the rules as if none were due
 keeps_due : (task : LogTask) (due : Option ℕ) (records : List Record) → length records ≡ task.records → ((barriers : ℕ) → due ≡ Some barriers → barriers ≡ barrier_count records)
@@ -69,16 +62,16 @@ keeps_due task due records counted same keeps = record { each = by }
     by k r found log.BarrierCount (ends, (barriers, is, other)) = other (all k r found ends ∙ sym (same barriers is))
     by k r found rule breaks = keeps.each k r found rule breaks
 
--- and it is good, where there is room for its segments
-good_due : {format : Format} (bytes : List ℕ) (task : LogTask) (due : Option ℕ) (opened : ℕ) (records : List Record) (segments : ℕ) → ((barriers : ℕ) → due ≡ Some barriers → barriers ≡ barrier_count records)
-    → opened + segments ≤ max_segments → IsGoodLog format bytes task 0 records segments → IsGoodLog format bytes (with_team task due) opened records (opened + segments)
-good_due bytes task due opened records segments same room good = record {
+-- and it is good from another number of segments on, where there is room for its own
+good_due : {format : Format} (bytes : List ℕ) (task : LogTask) (due : Option ℕ) (before opened : ℕ) (records : List Record) (segments : ℕ) → ((barriers : ℕ) → due ≡ Some barriers → barriers ≡ barrier_count records)
+    → opened + segments ≤ max_segments + before → IsGoodLog format bytes task before records segments → IsGoodLog format bytes (with_team task due) opened records (opened + (segments - before))
+good_due bytes task due before opened records segments same room good = record {
   whole = good.whole;
   tabled = good.tabled;
   counted = good.counted;
   keeps = keeps_due task due records good.counted same good.keeps;
   sum = omega (arith, good.sum);
-  limit = room;
+  limit = omega (arith, good.sum, room);
 }
 
 -- its segments come after others
@@ -90,20 +83,20 @@ walks_after path label records forks old new walks = record {
   forked = walks.forked;
 }
 
--- what is told of a log after so many segments
-abbrev pub counted_on : ℕ → Checked → Checked
-counted_on opened checked = record { forks = checked.forks; barriers = checked.barriers; segments = opened + checked.segments }
+-- what is told of a log that is counted from another number of segments on
+abbrev pub counted_on : ℕ → ℕ → Checked → Checked
+counted_on opened before checked = record { forks = checked.forks; barriers = checked.barriers; segments = opened + (checked.segments - before) }
 
 -- the next log, where it stands as it was read
 pub ahead_walks : {format : Format} (told : Option Content) (dir : List ℕ) (rows : List Row) (stack now : Stack) (trace : Trace) (row : Row) (read : Ahead) (old new : List Segment) → AreRows rows → IsStackAfter format rows stack trace
     → slice_get rows stack.place ≡ Some row → IsAhead format told dir rows read → read.source.place ≡ stack.place → StandsAsRead trace row stack.segments read → new ≡ old ++ read.found.items
-    → Pushed read.source.task.path stack now (counted_on stack.segments read.checked) read.checked.barriers → WalksTask format told dir rows now trace row old new
+    → Pushed read.source.task.path stack now (counted_on stack.segments read.source.opened read.checked) read.checked.barriers → WalksTask format told dir rows now trace row old new
 ahead_walks {format} told dir rows stack now trace row read old new good stands found is place agrees gains pushed =
     subst (λ (xs : List Segment). WalksTask format told dir rows now trace row old xs) (sym gains)
-    (walks_task told dir (string_bytes read.source.name) rows stack now trace row task read.source.label (counted_on stack.segments read.checked) read.checked.barriers old (old ++ read.found.items)
+    (walks_task told dir is.bytes rows stack now trace row task read.source.label (counted_on stack.segments read.source.opened read.checked) read.checked.barriers old (old ++ read.found.items)
     good stands (ap (λ (n : ℕ). slice_get rows n) (sym stands.place) ∙ found) task_is checks
-    (subst (λ (r : Row). WhereTold told (λ c. c.held (log_name dir r.path) ≡ Some (file_of c (string_bytes read.source.name)))) same is.source.there)
-    agrees.label (subst (λ (p : List Step). Pushed p stack now (counted_on stack.segments read.checked) read.checked.barriers) path pushed) (λ barriers due. sym (agrees.counted barriers due)) (λ due. refl))
+    (subst (λ (p : List Step). OpensFile told (log_name dir p) is.bytes) path is.opens)
+    agrees.label (subst (λ (p : List Step). Pushed p stack now (counted_on stack.segments read.source.opened read.checked) read.checked.barriers) path pushed) (λ barriers due. sym (agrees.counted barriers due)) (λ due. refl))
   where
     same : is.source.row ≡ row
     same = same_Some is.source.row row (sym is.source.listed ∙ ap (λ (n : ℕ). slice_get rows n) place ∙ found)
@@ -122,34 +115,16 @@ ahead_walks {format} told dir rows stack now trace row read old new good stands 
       team = agrees.team;
     }
 
-    checks : ChecksLog format told (string_bytes read.source.name) task stack.segments read.source.label (counted_on stack.segments read.checked) old (old ++ read.found.items)
+    checks : ChecksLog format is.bytes task stack.segments read.source.label (counted_on stack.segments read.source.opened read.checked) old (old ++ read.found.items)
     checks =
         let was = is.checks in
         record {
           records = was.records;
-          good = good_due _ (log_task_of read.source.task) agrees.due stack.segments was.records read.checked.segments (λ barriers due. agrees.counted barriers due ∙ was.barriers) agrees.limit was.good;
+          good = good_due _ (log_task_of read.source.task) agrees.due read.source.opened stack.segments was.records read.checked.segments (λ barriers due. agrees.counted barriers due ∙ was.barriers) agrees.limit was.good;
           barriers = was.barriers;
           whole = was.whole;
           walks = walks_after read.source.task.path read.source.label was.records read.checked.forks.items old read.found.items was.walks;
         }
-
--- a log of which no byte is left is good
-pub kept : {format : Format} (told : Option Content) (dir : List ℕ) (rows : List Row) (window : Window) (read : Ahead) → IsGoneOver format told dir rows window read
-    → read.source.size ≤ 8 + 24 * read.source.task.records → IsAhead format told dir rows read
-kept told dir rows window read passed ended = record {
-  source = passed.source;
-  checks = record {
-    records = passed.records;
-    good = passed.good;
-    barriers = passed.barriers;
-    whole = λ c is.
-        (let file = file_of c (string_bytes read.source.name) in
-        let shown = passed.shown c is in
-        whole_log file passed.records (window_at read.source.task.records window.ahead) shown
-        (none_left file (8 + 24 * read.source.task.records) read.source.size (passed.source.size c is) ended));
-    walks = passed.walks;
-  };
-}
 
 -- the first label of a lane, by that of its fork
 pub lane_own : (fork label : List Triple) (step : Step) → IsStep step → label ≡ fork ++ record { offset = step.lane; span = step.span; barrier = 0 } ∷ [] → IsOwnAfter label 1
@@ -159,16 +134,3 @@ lane_own fork label step is_step e x found =
     let few : step.span ≤ 64 = is_step.span.limit in
     let in_team : step.lane < step.span = is_step.lane in
     subst (λ (t : Triple). (t.span ≤ 64) × (t.offset ≤ 64 * 1) × (t.barrier ≤ 1)) same (omega arith, omega arith, omega arith)
-
--- the length that is told of a file
-pub sized : (held : Option (List ℕ)) (size : ℕ) → Some size ≡ option_map length held → size ≡ length (unwrap_or held [])
-sized None size is = absurd (none-some size (sym is))
-sized (Some file) size is = ap (λ (found : Option ℕ). unwrap_or found 0) is
-
--- a file that has a length is held
-pub held_there : (content : Content) (name other : List ℕ) (size : Option ℕ) → size ≡ option_map length (content.held name) → (size ≡ None → ⊥) → name ≡ other → content.held other ≡ Some (file_of content name)
-held_there content name other size is some same = from (content.held name) refl
-  where
-    from : (o : Option (List ℕ)) → content.held name ≡ o → content.held other ≡ Some (file_of content name)
-    from None none = absurd (some (is ∙ ap (λ (f : Option (List ℕ)). option_map length f) none))
-    from (Some bytes) there = ap (λ (n : List ℕ). content.held n) (sym same) ∙ there ∙ ap (λ (f : Option (List ℕ)). Some (unwrap_or f [])) (sym there)

@@ -13,8 +13,7 @@ use Rattle.log_format.specs.Spelling.{log_bytes}
 use Rattle.log_format.specs.Table.{IsTabled, Spells, IsFirstFault}
 use Rattle.sw_base.specs.declared.trouble.Trouble.{Trouble}
 use Rattle.sw_base.specs.declared.trouble.Trouble.TheVariants as trouble
-use Rattle.sw_base.specs.Environment.{Content, WhereTold}
-use Rattle.sw_base.specs.Window.{file_of}
+use Rattle.sw_base.specs.Environment.{WhereTold}
 use Rattle.race_model.specs.Label.{Triple}
 use Rattle.race_model.specs.Trace.{barrier_count}
 use Rattle.log_segment.specs.Walking.{open_after, WalksLog}
@@ -59,9 +58,9 @@ opens_by End open_before = 0
 opens_by Update open_before = cond open_before 0 1
 
 -- whether a segment with an access is open after these records
-abbrev pub is_open : Bool → List Record → Bool
-is_open open_before [] = open_before
-is_open open_before (r ∷ records) = is_open (open_after r.kind open_before) records
+abbrev pub is_open_after : Bool → List Record → Bool
+is_open_after open_before [] = open_before
+is_open_after open_before (r ∷ records) = is_open_after (open_after r.kind open_before) records
 
 -- nothing is bad in the log before record n, nor at it by a rule of a lower rank
 pub record NothingBefore (format : Format) (bytes : List ℕ) (task : LogTask) (opened n rank : ℕ) : Type 0 where
@@ -85,12 +84,12 @@ pub record IsGoodLog (format : Format) (bytes : List ℕ) (task : LogTask) (open
   pub sum : segments ≡ opened + segment_count records
   pub limit : segments ≤ max_segments
 
--- the log of this name is good, and these are its segments
-pub record ChecksLog (format : Format) (told : Option Content) (name : List ℕ) (task : Task) (opened : ℕ) (label : List Triple) (checked : Checked) (old new : List Segment) : Type 0 where
+-- the log with these bytes, where they are told, is good, and these are its segments
+pub record ChecksLog (format : Format) (bytes : Option (List ℕ)) (task : Task) (opened : ℕ) (label : List Triple) (checked : Checked) (old new : List Segment) : Type 0 where
   pub records : List Record
   pub good : IsGoodLog format (log_bytes (log_header format) records) (log_task_of task) opened records checked.segments
   pub barriers : checked.barriers ≡ barrier_count records
-  pub whole : WhereTold told (λ c. file_of c name ≡ log_bytes (log_header format) records)
+  pub whole : WhereTold bytes (λ file. file ≡ log_bytes (log_header format) records)
   pub walks : WalksLog task.path label records checked.forks.items old new
 
 -- the bytes of the next record are a fault of the table
@@ -111,7 +110,7 @@ pub record IsOverNext (format : Format) (bytes : List ℕ) (task : LogTask) (ope
   pub spells : Spells format bytes r
   pub breaks : BreaksNone task before r
   pub full : opened + segment_count before ≡ max_segments
-  pub opens : opens_by r.kind (is_open false before) ≡ 1
+  pub opens : opens_by r.kind (is_open_after false before) ≡ 1
 
 -- why the next record is refused
 abbrev pub IsNextRefused : Format → List ℕ → LogTask → ℕ → List Record → ℕ → LogFault → Type 0

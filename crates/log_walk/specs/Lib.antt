@@ -8,4 +8,5 @@ pub mod Stack
 pub mod State
 pub mod Sweep
 pub mod SweepValue
+pub mod Unread
 pub mod Walk

@@ -1,7 +1,6 @@
 -- What is known of a log of which the first records were gone over.
-use Rattle.std.specs.Prelude.{◌≡◌, ℕ, ◌+◌, ◌*◌, ◌≤◌, List, ◌++◌, length, drop, All, Option}
-use Rattle.sw_base.specs.Environment.{Content, WhereTold}
-use Rattle.sw_base.specs.Window.{Window, Shows, file_of}
+use Rattle.std.specs.Prelude.{◌≡◌, ℕ, ◌+◌, ◌≤◌, List, ◌++◌, length, All, Option}
+use Rattle.std.specs.Option.{option_map}
 use Rattle.log_format.specs.declared.format.Format.{Format}
 use Rattle.log_format.specs.Format.{log_header}
 use Rattle.log_format.specs.declared.record.Record.{Record}
@@ -26,20 +25,11 @@ pub record Checks (format : Format) (task : LogTask) (opened : ℕ) (state : Sta
   pub barriers : state.barriers ≤ index
   pub limit : state.segments ≤ max_segments
 
--- these records were read of the file, up to the window
-pub record IsReadTo (format : Format) (file : List ℕ) (records : List Record) (window : Window) : Type 0 where
-  pub shows : Shows window file
-  pub parts : file ≡ log_bytes (log_header format) records ++ drop window.place file
-
--- a window with these bytes ahead, past so many records
-abbrev pub window_at : ℕ → List ℕ → Window
-window_at index ahead = record { place = 8 + 24 * index; ahead = ahead }
-
--- so many records of the log were gone over, and these bytes are ahead
-pub record LogSoFar (format : Format) (told : Option Content) (name : List ℕ) (task : LogTask) (opened : ℕ) (label : List Triple) (state : State) (walk : Walk) (ahead : List ℕ) (old new : List Segment) (index : ℕ) : Type 0 where
+-- so many records of the log with these bytes, where they are told, were gone over, and this is left of it
+pub record LogSoFar (format : Format) (bytes : Option (List ℕ)) (task : LogTask) (opened : ℕ) (label : List Triple) (state : State) (walk : Walk) (left : Option (List ℕ)) (old new : List Segment) (index : ℕ) : Type 0 where
   pub records : List Record
   pub checks : Checks format task opened state records index
   pub walked : HasWalked task.path label records walk old new
   pub own : IsOwnAfter walk.label (index + 1)
   pub after : IsWalkAfter walk records
-  pub read : WhereTold told (λ c. IsReadTo format (file_of c name) records (window_at index ahead))
+  pub read : bytes ≡ option_map (λ rest. log_bytes (log_header format) records ++ rest) left

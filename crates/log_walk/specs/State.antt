@@ -2,12 +2,12 @@
 use Rattle.std.specs.Prelude.{◌≡◌, ℕ, ◌+◌, cond, Bool, false, List, [], length}
 use Rattle.log_format.specs.declared.record.Kind.{Kind}
 use Rattle.log_format.specs.declared.record.Record.{Record}
-use Rattle.log_segment.specs.Walking.{is_open as has_begun}
+use Rattle.log_segment.specs.Walking.{has_summary as has_begun}
 use Rattle.log_segment.specs.declared.walking.Walk.{Walk}
 use Rattle.race_model.specs.Race.{held_after}
 use Rattle.race_model.specs.Segment.{segment_count}
 use Rattle.race_model.specs.Trace.{region_count, barrier_count, is_barrier_kind}
-use Rattle.log_walk.specs.Check.{opens_by, is_open}
+use Rattle.log_walk.specs.Check.{opens_by, is_open_after}
 use Rattle.log_walk.specs.declared.state.State.{State}
 
 -- a state after these records, where earlier logs have so many segments
@@ -19,7 +19,7 @@ pub record IsStateAfter (state : State) (opened : ℕ) (before : List Record) : 
 -- a walk that went over these records: so many forks, and whether a segment is open
 pub record IsWalkAfter (walk : Walk) (before : List Record) : Type 0 where
   pub forks : length walk.forks.items ≡ region_count before
-  pub begun : has_begun walk.summary ≡ is_open false before
+  pub begun : has_begun walk.summary ≡ is_open_after false before
 
 -- a state after one record more, but for its mutexes
 abbrev pub with_counted : State → Kind → Bool → State

@@ -22,9 +22,9 @@ use Rattle.log_walk.specs.declared.check.LogFault.TheVariants as log_fault
 use Rattle.log_walk.specs.declared.fault.WalkFault.{WalkFault}
 use Rattle.log_walk.specs.declared.fault.WalkFault.TheVariants as fault
 
-abbrev pub of_trouble : Trouble → WalkFault
-of_trouble trouble.Memory = fault.Memory
-of_trouble trouble.Failed = fault.ReadFault
+abbrev pub walk_fault : Trouble → WalkFault
+walk_fault trouble.Memory = fault.Memory
+walk_fault trouble.Failed = fault.ReadFault
 
 abbrev pub of_index : IndexAnswer → WalkFault
 of_index answer.NoIndex = fault.NoIndex

@@ -1,8 +1,7 @@
 //! The check of one log.
 ghost use Rattle.std.specs.Prelude.{◌≡◌, ◌+◌, ◌-◌, ◌*◌, ◌<◌, ◌≤◌, ℕ, List, Option, [], ◌∷◌, ◌++◌, length, drop, IfOk, IfErr, IsErrOf, IsTrue, IsFalse, OnOk};
-ghost use Rattle.sw_base.specs.Environment.{Content, WhereTold};
-ghost use Rattle.sw_base.specs.OnlyReads.{OnlyReads};
-ghost use Rattle.sw_base.specs.Window.{Shows, file_of};
+ghost use Rattle.log_format.specs.Limit.{record_limit};
+ghost use Rattle.sw_base.specs.Environment.{WhereTold};
 ghost use Rattle.log_format.specs.Table.{HasAddress, Spells};
 ghost use Rattle.log_format.specs.declared.format.Format.{Format};
 ghost use Rattle.log_format.specs.declared.record.Record.{Record};
@@ -12,18 +11,19 @@ ghost use Rattle.log_walk.specs.Check.{of_why, IsNextRefused, ChecksLog, IsLogRe
 ghost use Rattle.log_walk.specs.LogSoFar.{LogSoFar};
 ghost use Rattle.log_walk.specs.Rules.{BreaksNone, log_task_of};
 ghost use Rattle.log_walk.specs.State.{IsStateAfter, IsWalkAfter};
+ghost use Rattle.log_walk.specs.Unread.{CountsFaults, unread};
 ghost use Rattle.race_model.specs.LogFault.{max_segments};
-ghost use Rattle.race_model.specs.IndexFault.{max_records};
 ghost use Rattle.race_model.specs.Label.{Triple};
 
 use crate::state::State;
 use crate::task::Task;
+use crate::window::Window;
 use log_format::{Format, RECORD_SIZE, Record, Why, decode_as};
 use log_segment::{Segment, Walk};
 use race_model::RecordWhy;
 use span_label::Label;
 use std::alloc::{AllocFailed, Global};
-use sw_base::{Folder, Memory, Trouble, Window};
+use sw_base::{File, Memory, Trouble};
 
 /// Why a log is refused.
 #[derive(Clone, Copy)]
@@ -85,13 +85,6 @@ pub struct Checked {
     pub segments: u32,
 }
 
-/// Where a log with so many records ends.
-pub fn end_of(records: u32) -> u64
-    ensures { result ≡ 8 + 24 * records }
-{
-    8 + RECORD_SIZE as u64 * u64::from(records)
-}
-
 /// The rule of a log that a fault of a record's bytes breaks.
 fn rule_of(why: Why) -> RecordWhy
     ensures { result ≡ of_why why }
@@ -149,18 +142,18 @@ fn walk_ahead(
     ahead: &[u8],
     found: &mut Vec<Segment>,
 ) -> Result<u32, LogFault>
-    requires records { task.now.records ≤ max_records }
+    requires records { task.now.records ≤ record_limit }
     requires before { before ≤ task.now.records }
-    requires so { (told : Option Content) × (name : List ℕ) × (opened : ℕ) × (label : List Triple) × (old : List Segment)
-        × LogSoFar format told name (log_task_of task.now) opened label state.old walk.old ahead.now old found.old.items before }
-    ensures goes { (told : Option Content) (name : List ℕ) (opened : ℕ) (label : List Triple) (old : List Segment)
-        → LogSoFar format told name (log_task_of task.now) opened label state.old walk.old ahead.now old found.old.items before
-        → IfOk result (λ after. LogSoFar format told name (log_task_of task.now) opened label state.new walk.new (drop (24 * (after - before)) ahead.now) old found.new.items after) }
+    requires so { (bytes : Option (List ℕ)) × (rest : Option (List ℕ)) × (opened : ℕ) × (label : List Triple) × (old : List Segment)
+        × LogSoFar format bytes (log_task_of task.now) opened label state.old walk.old (unread ahead.now rest) old found.old.items before }
+    ensures goes { (bytes : Option (List ℕ)) (rest : Option (List ℕ)) (opened : ℕ) (label : List Triple) (old : List Segment)
+        → LogSoFar format bytes (log_task_of task.now) opened label state.old walk.old (unread ahead.now rest) old found.old.items before
+        → IfOk result (λ after. LogSoFar format bytes (log_task_of task.now) opened label state.new walk.new (unread (drop (24 * (after - before)) ahead.now) rest) old found.new.items after) }
     ensures within { IfOk result (λ after. (before ≤ after) × (after ≤ task.now.records) × (24 * (after - before) ≤ length ahead.now)) }
     ensures all { IfOk result (λ after. after < task.now.records → length ahead.now < 24 * (after - before) + 24) }
-    ensures refused { (told : Option Content) (name : List ℕ) (opened : ℕ) (label : List Triple) (old : List Segment)
-        → LogSoFar format told name (log_task_of task.now) opened label state.old walk.old ahead.now old found.old.items before
-        → IfErr result (λ e. WhereTold told (λ c. IsLogRefused format (file_of c name) (log_task_of task.now) opened e)) }
+    ensures refused { (bytes : Option (List ℕ)) (rest : Option (List ℕ)) (opened : ℕ) (label : List Triple) (old : List Segment)
+        → LogSoFar format bytes (log_task_of task.now) opened label state.old walk.old (unread ahead.now rest) old found.old.items before
+        → IfErr result (λ e. WhereTold bytes (λ b. IsLogRefused format b (log_task_of task.now) opened e)) }
     ensures read { IsErrOf result LogFault.ReadFault → ⊥ }
 {
     let mut after = before;
@@ -188,54 +181,11 @@ fn walk_ahead(
     Ok(after)
 }
 
-/// Passes the whole records that are ahead in the window, where they keep the rules, and tells how many records of the log
-/// were gone over by then. So many were before.
-pub fn pass_ahead(
-    alloc: Global,
-    format: Format,
-    window: &mut Window,
-    state: &mut State,
-    walk: &mut Walk,
-    task: &Task,
-    before: u32,
-    found: &mut Vec<Segment>,
-) -> Result<u32, LogFault>
-    requires records { task.now.records ≤ max_records }
-    requires before { before ≤ task.now.records }
-    requires place { window.old.place ≡ 8 + 24 * before }
-    requires so { (told : Option Content) × (name : List ℕ) × (opened : ℕ) × (label : List Triple) × (old : List Segment)
-        × LogSoFar format told name (log_task_of task.now) opened label state.old walk.old window.old.ahead old found.old.items before }
-    ensures goes { (told : Option Content) (name : List ℕ) (opened : ℕ) (label : List Triple) (old : List Segment)
-        → LogSoFar format told name (log_task_of task.now) opened label state.old walk.old window.old.ahead old found.old.items before
-        → IfOk result (λ after. LogSoFar format told name (log_task_of task.now) opened label state.new walk.new window.new.ahead old found.new.items after) }
-    ensures place { IfOk result (λ after. window.new.place ≡ 8 + 24 * after) }
-    ensures within { IfOk result (λ after. (before ≤ after) × (after ≤ task.now.records)) }
-    ensures none { IfOk result (λ after. after ≡ before → before < task.now.records → length window.old.ahead < 24) }
-    ensures refused { (told : Option Content) (name : List ℕ) (opened : ℕ) (label : List Triple) (old : List Segment)
-        → LogSoFar format told name (log_task_of task.now) opened label state.old walk.old window.old.ahead old found.old.items before
-        → IfErr result (λ e. WhereTold told (λ c. IsLogRefused format (file_of c name) (log_task_of task.now) opened e)) }
-    ensures read { IsErrOf result LogFault.ReadFault → ⊥ }
-{
-    let after = walk_ahead(
-        alloc,
-        format,
-        state,
-        walk,
-        task,
-        before,
-        window.ahead(),
-        found,
-    )?;
-    window.skip(RECORD_SIZE * (after - before) as usize);
-    Ok(after)
-}
-
 /// Goes over the next records of a log, at least one, where they keep the rules, and tells how many were gone over by then.
-fn next_records<F: Folder>(
+fn next_records<T: File>(
     alloc: Global,
     format: Format,
-    folder: &mut F,
-    name: &str,
+    file: &mut T,
     window: &mut Window,
     state: &mut State,
     walk: &mut Walk,
@@ -243,58 +193,53 @@ fn next_records<F: Folder>(
     before: u32,
     found: &mut Vec<Segment>,
 ) -> Result<u32, LogFault>
-    requires records { task.now.records ≤ max_records }
+    requires records { task.now.records ≤ record_limit }
     requires before { before < task.now.records }
-    requires place { window.old.place ≡ 8 + 24 * before }
-    requires so { (opened : ℕ) × (label : List Triple) × (old : List Segment)
-        × LogSoFar format (F.state folder.old).content name.now (log_task_of task.now) opened label state.old walk.old window.old.ahead old found.old.items before }
-    ensures goes { (opened : ℕ) (label : List Triple) (old : List Segment)
-        → LogSoFar format (F.state folder.old).content name.now (log_task_of task.now) opened label state.old walk.old window.old.ahead old found.old.items before
-        → IfOk result (λ after. LogSoFar format (F.state folder.old).content name.now (log_task_of task.now) opened label state.new walk.new window.new.ahead old found.new.items after) }
-    ensures place { IfOk result (λ after. window.new.place ≡ 8 + 24 * after) }
+    requires so { (bytes : Option (List ℕ)) × (opened : ℕ) × (label : List Triple) × (old : List Segment)
+        × LogSoFar format bytes (log_task_of task.now) opened label state.old walk.old (unread window.old (T.rest file.old)) old found.old.items before }
+    ensures goes { (bytes : Option (List ℕ)) (opened : ℕ) (label : List Triple) (old : List Segment)
+        → LogSoFar format bytes (log_task_of task.now) opened label state.old walk.old (unread window.old (T.rest file.old)) old found.old.items before
+        → IfOk result (λ after. LogSoFar format bytes (log_task_of task.now) opened label state.new walk.new (unread window.new (T.rest file.new)) old found.new.items after) }
     ensures within { IfOk result (λ after. (before < after) × (after ≤ task.now.records)) }
-    ensures refused { (opened : ℕ) (label : List Triple) (old : List Segment)
-        → LogSoFar format (F.state folder.old).content name.now (log_task_of task.now) opened label state.old walk.old window.old.ahead old found.old.items before
-        → IfErr result (λ e. WhereTold (F.state folder.old).content (λ c. IsLogRefused format (file_of c name.now) (log_task_of task.now) opened e)) }
+    ensures refused { (bytes : Option (List ℕ)) (opened : ℕ) (label : List Triple) (old : List Segment)
+        → LogSoFar format bytes (log_task_of task.now) opened label state.old walk.old (unread window.old (T.rest file.old)) old found.old.items before
+        → IfErr result (λ e. WhereTold bytes (λ b. IsLogRefused format b (log_task_of task.now) opened e)) }
 
-    ensures reads { OnlyReads F.Folder folder.old folder.new (IsErrOf result LogFault.ReadFault) }
+    ensures reads { CountsFaults (T.faults file.old) (T.faults file.new) (IsErrOf result LogFault.ReadFault) }
 {
-    window.fill(alloc, folder, name, RECORD_SIZE)?;
-    let after = pass_ahead(alloc, format, window, state, walk, task, before, found)?;
+    window.fill(alloc, file, RECORD_SIZE)?;
+    let ahead = window.ahead();
+    let after = walk_ahead(alloc, format, state, walk, task, before, ahead, found)?;
     if after == before {
         return Err(LogFault::Bad {
             number: before + 1,
             why: RecordWhy::Cut,
         });
     }
+    window.skip(RECORD_SIZE * (after - before) as usize);
     Ok(after)
 }
 
-/// Goes over the log under this name, which has so many bytes, where it is good, and adds its segments. Else the first place at
-/// which it isn't.
-pub fn check_log<F: Folder>(
+/// Goes over the log that was opened, where it is good, and adds its segments. Else the first place at which it isn't.
+pub fn check_log<T: File>(
     alloc: Global,
     format: Format,
-    folder: &mut F,
-    name: &str,
-    size: u64,
+    file: &mut T,
     window: &mut Window,
     task: &Task,
     opened: u32,
     label: Label,
     found: &mut Vec<Segment>,
 ) -> Result<Checked, LogFault>
-    requires size { WhereTold (F.state folder.old).content (λ c. size ≡ length (file_of c name.now)) }
     requires opened { opened ≤ max_segments }
-    requires records { task.now.records ≤ max_records }
+    requires records { task.now.records ≤ record_limit }
     requires own { IsOwnAfter label 1 }
-    ensures good { IfOk result (λ checked. ChecksLog format (F.state folder.old).content name.now task.now opened label checked found.old.items found.new.items) }
-    ensures refused { IfErr result (λ e. WhereTold (F.state folder.old).content (λ x. IsLogRefused format (file_of x name.now) (log_task_of task.now) opened e)) }
+    ensures good { IfOk result (λ checked. ChecksLog format (T.rest file.old) task.now opened label checked found.old.items found.new.items) }
+    ensures refused { IfErr result (λ e. WhereTold (T.rest file.old) (λ b. IsLogRefused format b (log_task_of task.now) opened e)) }
 
-    ensures reads { OnlyReads F.Folder folder.old folder.new (IsErrOf result LogFault.ReadFault) }
+    ensures reads { CountsFaults (T.faults file.old) (T.faults file.new) (IsErrOf result LogFault.ReadFault) }
 {
-    window.restart();
-    if !window.pass_header(alloc, folder, name, &format.log_header())? {
+    if !window.pass_header(alloc, file, &format.log_header())? {
         return Err(LogFault::Bad {
             number: 0,
             why: RecordWhy::Header,
@@ -304,12 +249,12 @@ pub fn check_log<F: Folder>(
     let mut walk = Walk::new(alloc, label);
     let mut index = 0;
     'windows: while index < task.records {
-        let after = next_records(
-            alloc, format, folder, name, window, &mut state, &mut walk, task, index, found,
+        index = next_records(
+            alloc, format, file, window, &mut state, &mut walk, task, index, found,
         )?;
-        index = after;
     }
-    if size > end_of(task.records) {
+    window.fill(alloc, file, 1)?;
+    if !window.ahead().is_empty() {
         return Err(LogFault::Bad {
             number: task.records + 1,
             why: RecordWhy::Extra,

@@ -98,9 +98,9 @@ impl<T: Drop> From<AllocFailed<T>> for WalkFault {
 
 impl From<Trouble> for WalkFault {
     ghost use Rattle.std.specs.Prelude.{◌≡◌};
-    ghost use Rattle.log_walk.specs.Walk.{of_trouble};
+    ghost use Rattle.log_walk.specs.Walk.{walk_fault};
 
-    ghost from_gives = { λ trouble e. e ≡ of_trouble trouble };
+    ghost from_gives = { λ trouble e. e ≡ walk_fault trouble };
 
     fn from(trouble: Trouble) -> Self {
         match trouble {

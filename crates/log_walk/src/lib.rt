@@ -1,6 +1,6 @@
 //! The logs of a folder, read and checked.
 //!
-//! `Sweep` goes over the root's log and then over those of one region of the root at a time, each log once through one
+//! `Sweep` goes over the root's log and then over those of one region of the root at a time, each log once through a
 //! window, and gives the barrier intervals of each with their labels and accesses; `walk` gives all at once. Both do so
 //! exactly where the folder is well formed: it is then that of a fork-join run. Else they name the folder's first bad place:
 //! the index before the logs, the logs in the order of their rows, in each the records by number, and at one record the first
@@ -24,6 +24,7 @@ mod taking;
 mod task;
 mod together;
 mod walking;
+mod window;
 
 pub use fault::WalkFault;
 pub use laws::{first_bad_place_is_unique, row_tells_its_task, well_formed_folder_holds_a_run};

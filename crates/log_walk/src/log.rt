@@ -1,15 +1,14 @@
 //! Going over one log of a folder.
-ghost use Rattle.std.specs.Prelude.{◌≡◌, ◌+◌, ◌<◌, Some, length, slice_get, string_bytes, IfOk, IfErr, OnOk, IsErrOf};
-ghost use Rattle.sw_base.specs.Environment.{WhereTold};
+ghost use Rattle.std.specs.Prelude.{◌≡◌, ◌+◌, ◌<◌, Some, length, slice_get, IfOk, IfErr, OnOk, IsErrOf};
 ghost use Rattle.sw_base.specs.OnlyReads.{OnlyReads};
 ghost use Rattle.sw_base.specs.Names.{log_name};
-ghost use Rattle.sw_base.specs.Window.{HoldsFile, file_of};
 ghost use Rattle.log_format.specs.declared.format.Format.{Format};
 ghost use Rattle.race_model.specs.Row.{Row};
 ghost use Rattle.race_model.specs.IndexFault.{AreRows};
 ghost use Rattle.race_model.specs.Trace.{Trace};
 ghost use Rattle.log_walk.specs.Rules.{log_task_of};
 ghost use Rattle.log_walk.specs.Stack.{IsStackAfter, WalksTask};
+ghost use Rattle.log_walk.specs.Unread.{OpensFile};
 ghost use Rattle.log_walk.specs.Walk.{of_log, IsUnread, IsTaskOf, RefusesNext};
 
 use crate::check::{LogFault, check_log};
@@ -23,22 +22,21 @@ use log_segment::{Segment, first_label};
 use std::alloc::Global;
 use sw_base::{Folder, Memory, Path};
 
-/// The name of a task's log, and how many bytes it has, where the folder has it.
-fn find_log<F: Folder>(
+/// A task's log, before its first byte, where the folder has it.
+fn open_log<F: Folder>(
     alloc: Global,
     folder: &mut F,
     dir: &str,
     path: &Path,
-) -> Result<(String, u64), WalkFault>
-    ensures name { IfOk result (λ found. string_bytes found.0 ≡ log_name dir.now path.now) }
-    ensures size { IfOk result (λ found. WhereTold (F.state folder.old).content (λ c. found.1 ≡ length (file_of c (log_name dir.now path.now)))) }
-    ensures found { OnOk result (WhereTold (F.state folder.old).content (λ c. HoldsFile c (log_name dir.now path.now))) }
+) -> Result<F::File, WalkFault>
+    ensures opens { IfOk result (λ file. OpensFile (F.state folder.old).content (log_name dir.now path.now) (F.File.rest file)) }
+    ensures fresh { IfOk result (λ file. F.File.faults file ≡ 0) }
     ensures unread { IfErr result (λ e. IsUnread (F.state folder.old).content dir.now path.now e) }
     ensures reads { OnlyReads F.Folder folder.old folder.new (IsErrOf result WalkFault.ReadFault) }
 {
     let name = path.name(alloc, dir)?;
-    match folder.size(alloc, &name) {
-        Ok(Some(size)) => Ok((name, size)),
+    match folder.open_file(alloc, &name) {
+        Ok(Some(file)) => Ok(file),
         Ok(None) => Err(WalkFault::MissingLog { path: path.copy() }),
         Err(trouble) => Err(WalkFault::from(trouble)),
     }
@@ -101,22 +99,21 @@ pub fn walk_log<F: Folder>(
     ensures reads { OnlyReads F.Folder folder.old folder.new (IsErrOf result WalkFault.ReadFault) }
 {
     let row = &rows[stack.place];
-    let (name, size) = find_log(alloc, folder, dir, &row.path)?;
+    let mut file = open_log(alloc, folder, dir, &row.path)?;
     let task = next_task(alloc, rows, stack)?;
     let label = first_label(&stack.forks, &row.path);
-    let window = &mut stack.window;
-    match check_log(
+    let checked = check_log(
         alloc,
         format,
-        folder,
-        &name,
-        size,
-        window,
+        &mut file,
+        &mut stack.window,
         &task,
         stack.segments,
         label,
         found,
-    ) {
+    );
+    folder.close_file(file);
+    match checked {
         Ok(checked) => {
             let barriers = task.due_barriers.unwrap_or(checked.barriers);
             stack.push(&row.path, checked.forks, barriers, checked.segments)?;

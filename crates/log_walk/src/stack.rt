@@ -4,12 +4,10 @@ ghost use Rattle.sw_base.specs.declared.path.Step.{Step as PathStep};
 ghost use Rattle.log_walk.specs.GoodTrace.{LeadsTeam};
 ghost use Rattle.log_walk.specs.Stack.{IsCountOf, counts_with};
 
+use crate::window::Window;
 use span_label::Label;
 use std::alloc::Global;
-use sw_base::{Memory, Path, Window};
-
-/// How many bytes of a log are read at once: 2,730 records.
-const WINDOW: usize = 65_520;
+use sw_base::{Memory, Path};
 
 /// What is kept of the logs that were gone over.
 #[derive(Drop)]
@@ -22,7 +20,7 @@ pub struct Stack {
     pub forks: Vec<Vec<Label>>,
     /// For the same but the root, how many barriers the first lane of its team passed.
     pub barriers: Vec<u32>,
-    /// The bytes of a log.
+    /// The bytes of a log that were read ahead.
     pub window: Window,
 }
 
@@ -37,7 +35,7 @@ impl Stack {
             segments: 0,
             forks: Vec::new(alloc),
             barriers: Vec::new(alloc),
-            window: Window::new(alloc, WINDOW)?,
+            window: Window::new(alloc)?,
         })
     }
 

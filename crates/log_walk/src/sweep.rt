@@ -171,7 +171,7 @@ impl Sweep {
         self.next_with(alloc, folder, Vec::new(alloc))
     }
 
-    /// The same, by so many workers: one thread reads the files, and the workers go over the records of several lanes at once.
+    /// The same, by so many workers, each of which reads whole logs.
     pub fn next_by<R: Threads + Sync, F: Folder>(
         &mut self,
         rt: &R,

@@ -40,11 +40,11 @@ fn are_due(due: Option<u32>, barriers: u32) -> bool
     }
 }
 
-/// Whether so many segments more are not too many.
-fn have_room(opened: u32, segments: u32) -> bool
-    ensures { IsTrue result → opened + segments ≤ max_segments }
+/// Whether the segments that are counted from one number to another are not too many after so many.
+fn have_room(opened: u32, from: u32, to: u32) -> bool
+    ensures { IsTrue result → opened + to ≤ max_segments + from }
 {
-    u64::from(opened) + u64::from(segments) <= u64::from(MAX_SEGMENTS)
+    u64::from(opened) + u64::from(to) <= u64::from(MAX_SEGMENTS) + u64::from(from)
 }
 
 /// Whether the next log stands as it was read before its turn.
@@ -64,7 +64,7 @@ fn agrees(rows: &[IndexRow], stack: &Stack, read: &Ahead) -> bool
     if !are_due(due, read.checked.barriers) {
         return false;
     }
-    have_room(stack.segments, read.checked.segments)
+    have_room(stack.segments, read.source.opened, read.checked.segments)
 }
 
 /// Where among these the log of this row is.
@@ -101,7 +101,8 @@ fn take(ahead: &mut Vec<Ahead>, rows: &[IndexRow], stack: &Stack) -> Option<Ahea
 /// Goes past the next log, which was read before its turn and stands so.
 fn take_over(stack: &mut Stack, read: Ahead, found: &mut Vec<Segment>) -> Result<(), Memory>
     requires place { stack.old.place < 2 ^ 32 }
-    requires fits { stack.old.segments + read.checked.segments ≤ max_segments }
+    requires from { read.source.opened ≤ read.checked.segments }
+    requires fits { stack.old.segments + read.checked.segments ≤ max_segments + read.source.opened }
     ensures walks { (format : Format) (told : Option Content) (dir : List ℕ) (rows : List Row) (trace : Trace) (row : Row) → AreRows rows → IsStackAfter format rows stack.old trace → slice_get rows stack.old.place ≡ Some row
         → IsAhead format told dir rows read → read.source.place ≡ stack.old.place → StandsAsRead trace row stack.old.segments read
         → OnOk result (WalksTask format told dir rows stack.new trace row found.old.items found.new.items) }
@@ -118,7 +119,7 @@ fn take_over(stack: &mut Stack, read: Ahead, found: &mut Vec<Segment>) -> Result
         segments,
     } = checked;
     found.append(&mut more)?;
-    let opened = stack.segments + segments;
+    let opened = stack.segments + (segments - source.opened);
     stack.push(&source.task.path, forks, barriers, opened)?;
     Ok(())
 }

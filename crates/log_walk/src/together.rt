@@ -1,15 +1,18 @@
-//! The logs of the lanes of a region, read before their turns: one thread reads the files, and workers go over the records.
-ghost use Rattle.std.specs.Prelude.{◌<◌, ◌≤◌, ◌^◌, ℕ, List, All, Option, IfOk, IfSome, OnOk, length, IsErrOf};
+//! The logs of the lanes of a region, read before their turns by several workers, each of which reads whole logs.
+ghost use Rattle.std.specs.Prelude.{◌<◌, ◌≤◌, ◌-◌, ◌*◌, ℕ, List, All, Option, IfOk, IfSome, OnOk, length, IsErrOf};
 ghost use Rattle.sw_base.specs.Environment.{Content};
 ghost use Rattle.sw_base.specs.OnlyReads.{OnlyReads};
 ghost use Rattle.log_format.specs.declared.format.Format.{Format};
 ghost use Rattle.race_model.specs.IndexFault.{AreRows};
+ghost use Rattle.race_model.specs.LogFault.{max_segments};
 ghost use Rattle.race_model.specs.Row.{Row};
-ghost use Rattle.log_walk.specs.Ahead.{IsAhead, IsBatch, IsSlot, IsSource};
+ghost use Rattle.log_walk.specs.Ahead.{IsAhead, IsJob};
 
-use crate::ahead::{Ahead, Batch, Slot, Source};
+use crate::ahead::{Ahead, Job, Source, go_all};
+use crate::check::LogFault;
 use crate::spans::spans_of;
 use crate::stack::Stack;
+use crate::state::MAX_SEGMENTS;
 use crate::sweep::is_under;
 use crate::task::Task;
 use log_format::Format;
@@ -17,15 +20,14 @@ use log_index::Row as IndexRow;
 use span_label::Label;
 use std::alloc::Global;
 use std::marker::Sync;
-use std::thread;
-use std::thread::{Threads, join_mut};
+use std::thread::Threads;
 use sw_base::{Folder, Memory, Trouble};
 
 /// Fewer records than these aren't worth a thread.
 const FEW: u64 = 16_384;
 
-/// The most records of a log that are read at once.
-const MOST: usize = 43_680;
+/// The most logs that are open at once. A team has no more lanes, and any system lets a process have some hundred files open.
+const MOST: usize = 64;
 
 /// The most levels of a label below which one can be forked.
 const LEVELS: usize = 5;
@@ -37,12 +39,13 @@ fn lanes_of(
     from: usize,
     region: u64,
 ) -> Result<Vec<usize>, Memory>
-    ensures { IfOk result (λ lanes. All (λ place. place < length rows.now) lanes.items) }
+    ensures within { IfOk result (λ lanes. All (λ place. place < length rows.now) lanes.items) }
+    ensures few { IfOk result (λ lanes. length lanes.items ≤ 64) }
 {
     let mut lanes = Vec::new(alloc);
     'rows: for place in from..rows.len() {
         let row = &rows[place];
-        if !is_under(&row.path, region) {
+        if lanes.len() == MOST || !is_under(&row.path, region) {
             return Ok(lanes);
         }
         if row.path.steps().len() == 1 {
@@ -52,18 +55,40 @@ fn lanes_of(
     Ok(lanes)
 }
 
-/// How many records the logs of these rows have, and how many the longest has.
-fn records_of(rows: &[IndexRow], lanes: &[usize]) -> (u64, u32)
+/// How many records the logs of these rows have.
+fn records_of(rows: &[IndexRow], lanes: &[usize]) -> u64
     requires { All (λ place. place < length rows.now) lanes.now }
 {
     let mut all = 0u64;
-    let mut most = 0;
     for place in lanes {
         let row = &rows[*place];
         all = all.saturating_add(u64::from(row.records));
-        most = most.max(row.records);
     }
-    (all, most)
+    all
+}
+
+/// Every so many-th of the lanes from this one on comes next.
+fn deal(lanes: &[usize], first: usize, step: usize, dealt: &mut Vec<usize>) -> Result<(), Memory>
+    requires step { 0 < step }
+    ensures { (n : ℕ) → All (λ place. place < n) lanes.now → All (λ place. place < n) dealt.old.items → OnOk result (All (λ place. place < n) dealt.new.items) }
+{
+    for (number, place) in lanes.iter().enumerate() {
+        if number % step == first {
+            dealt.push(*place)?;
+        }
+    }
+    Ok(())
+}
+
+/// The lanes so that each of so many workers, which take neighbours, has as many of the first as of the last.
+fn shuffled(alloc: Global, lanes: &[usize], workers: usize) -> Result<Vec<usize>, Memory>
+    ensures { (n : ℕ) → All (λ place. place < n) lanes.now → IfOk result (λ dealt. All (λ place. place < n) dealt.items) }
+{
+    let mut dealt = Vec::new(alloc);
+    for worker in 0..workers {
+        deal(lanes, worker, workers, &mut dealt)?;
+    }
+    Ok(dealt)
 }
 
 /// The label of the fork of the root's region, if it is known and a label of a lane has room.
@@ -77,198 +102,144 @@ fn fork_of(forks: &[Vec<Label>], region: u64) -> Option<&Label>
     Some(fork)
 }
 
-/// What the log of this row is read by. None where there is no such log.
-fn source<F: Folder>(
+/// From how many segments on a log of so many records is counted, where logs of so many in all have so many segments together:
+/// what is left is its share.
+fn counted_from(room: u32, records: u32, all: u64) -> u32
+    requires all { 0 < all }
+    requires room { room ≤ max_segments }
+    ensures limit { result ≤ max_segments }
+    ensures share { (max_segments - result) * all ≤ room * records }
+{
+    let share = u64::from(room) * u64::from(records) / all;
+    MAX_SEGMENTS - share.min(u64::from(MAX_SEGMENTS)) as u32
+}
+
+/// Opens the log of this row, a lane of the root's, which is counted from so many segments on. None where there is no such log.
+fn job_of<F: Folder>(
     alloc: Global,
     folder: &mut F,
     dir: &str,
     rows: &[IndexRow],
     place: usize,
     fork: &Label,
-) -> Result<Option<Source>, Trouble>
+    opened: u32,
+) -> Result<Option<Job<F::File>>, Trouble>
     requires rows { AreRows rows.now }
     requires within { place < length rows.now }
     requires room { length fork.now < 5 }
-    ensures source { IfOk result (λ found. IfSome found (IsSource (F.state folder.old).content dir.now rows.now)) }
+    requires opened { opened ≤ max_segments }
+    ensures job { (format : Format) → IfOk result (λ found. IfSome found (IsJob F.File.rest F.File.faults format (F.state folder.old).content dir.now rows.now)) }
 
     ensures reads { OnlyReads F.Folder folder.old folder.new (IsErrOf result Trouble.Failed) }
 {
     let row = &rows[place];
-    let name = row.path.name(alloc, dir)?;
-    let Some(size) = folder.size(alloc, &name)? else {
-        return Ok(None);
-    };
-    let spans = spans_of(alloc, rows, place)?;
     let Some((step, _)) = row.path.steps().split_last() else {
         return Ok(None);
     };
+    let name = row.path.name(alloc, dir)?;
     let task = Task {
         path: row.path.copy(),
         records: row.records,
-        spans,
+        spans: spans_of(alloc, rows, place)?,
         due_barriers: None,
     };
-    Ok(Some(Source {
-        place,
-        name,
-        size,
-        task,
-        label: fork.fork(step.lane, step.span),
+    let label = fork.fork(step.lane, step.span);
+    let Some(file) = folder.open_file(alloc, &name)? else {
+        return Ok(None);
+    };
+    Ok(Some(Job {
+        source: Source {
+            place,
+            task,
+            label,
+            opened,
+        },
+        file,
+        answer: None,
+        found: Vec::new(alloc),
     }))
 }
 
-/// What the logs of these rows are read by.
-fn sources_of<F: Folder>(
+/// Opens the logs of these rows, which have so many records in all, and for which so many segments are left.
+fn jobs_of<F: Folder>(
     alloc: Global,
     folder: &mut F,
     dir: &str,
     rows: &[IndexRow],
     lanes: &[usize],
     fork: &Label,
-) -> Result<Vec<Source>, Trouble>
+    room: u32,
+    all: u64,
+) -> Result<Vec<Job<F::File>>, Trouble>
     requires rows { AreRows rows.now }
     requires within { All (λ place. place < length rows.now) lanes.now }
-    requires room { length fork.now < 5 }
-    ensures sources { IfOk result (λ found. All (IsSource (F.state folder.old).content dir.now rows.now) found.items) }
+    requires fork { length fork.now < 5 }
+    requires room { room ≤ max_segments }
+    requires all { 0 < all }
+    ensures jobs { (format : Format) → IfOk result (λ jobs. All (IsJob F.File.rest F.File.faults format (F.state folder.old).content dir.now rows.now) jobs.items) }
 
     ensures reads { OnlyReads F.Folder folder.old folder.new (IsErrOf result Trouble.Failed) }
 {
-    let mut sources = Vec::new(alloc);
+    let mut jobs = Vec::new(alloc);
     for place in lanes {
-        if let Some(source) = source(alloc, folder, dir, rows, *place, fork)? {
-            sources.push(source)?;
+        let row = &rows[*place];
+        let opened = counted_from(room, row.records, all);
+        if let Some(job) = job_of(alloc, folder, dir, rows, *place, fork, opened)? {
+            jobs.push(job)?;
         }
     }
-    Ok(sources)
+    Ok(jobs)
 }
 
-/// So many slots, each with room for so many records at once.
-fn slots_of(alloc: Global, count: usize, records: usize) -> Result<Vec<Slot>, Memory>
-    requires { records < 2 ^ 32 }
-    ensures { (format : Format) (told : Option Content) (dir : List ℕ) (rows : List Row) → IfOk result (λ slots. All (IsSlot format told dir rows) slots.items) }
-{
-    let mut slots = Vec::new(alloc);
-    for _ in 0..count {
-        slots.push(Slot::new(alloc, records)?)?;
-    }
-    Ok(slots)
-}
-
-/// Reads on in the logs of all slots, and begins others in those that have none. The logs that are good are kept.
-fn fill_all<F: Folder>(
-    alloc: Global,
-    format: Format,
-    folder: &mut F,
-    slots: &mut [Slot],
-    batch: &mut Batch,
-) -> Result<(), Trouble>
-    ensures fills { (dir : List ℕ) (rows : List Row) → All (IsSlot format (F.state folder.old).content dir rows) slots.old
-        → IsBatch format (F.state folder.old).content dir rows batch.old
-        → OnOk result (All (IsSlot format (F.state folder.old).content dir rows) slots.new × IsBatch format (F.state folder.old).content dir rows batch.new) }
+/// Gives the file back, and keeps the log, if it is good.
+fn close<F: Folder>(folder: &mut F, job: Job<F::File>) -> Result<Option<Ahead>, Trouble>
+    requires so { (format : Format) × (told : Option Content) × (dir : List ℕ) × (rows : List Row) × IsJob F.File.rest F.File.faults format told dir rows job }
+    ensures ahead { (format : Format) (told : Option Content) (dir : List ℕ) (rows : List Row) → IsJob F.File.rest F.File.faults format told dir rows job → IfOk result (λ found. IfSome found (IsAhead format told dir rows)) }
 
     ensures reads { OnlyReads F.Folder folder.old folder.new (IsErrOf result Trouble.Failed) }
 {
-    for slot in slots.iter_mut() {
-        slot.fill(alloc, format, folder, batch)?;
+    let Job {
+        source,
+        file,
+        answer,
+        found,
+    } = job;
+    folder.close_file(file);
+    match answer {
+        Some(Ok(checked)) => Ok(Some(Ahead {
+            source,
+            checked,
+            found,
+        })),
+        Some(Err(LogFault::ReadFault)) => Err(Trouble::Failed),
+        Some(Err(_)) | None => Ok(None),
     }
-    Ok(())
 }
 
-/// Goes over the records that are ahead in all slots, by so many workers at once.
-fn go_all<R: Threads + Sync>(
-    rt: &R,
-    alloc: Global,
-    format: Format,
-    slots: &mut [Slot],
-    workers: usize,
-)
-    requires workers { 1 ≤ workers }
-    requires so { (told : Option Content) × (dir : List ℕ) × (rows : List Row) × All (IsSlot format told dir rows) slots.old }
-    ensures goes { (told : Option Content) (dir : List ℕ) (rows : List Row) → All (IsSlot format told dir rows) slots.old → All (IsSlot format told dir rows) slots.new }
-{
-    thread::for_each_mut(
-        rt,
-        slots,
-        workers,
-        &|_at: usize, slot: &mut Slot|
-            requires so { (told : Option Content) × (dir : List ℕ) × (rows : List Row) × IsSlot format told dir rows slot.old }
-            ensures goes { (told : Option Content) (dir : List ℕ) (rows : List Row) → IsSlot format told dir rows slot.old → IsSlot format told dir rows slot.new }
-        {
-            slot.go(alloc, format);
-        },
-    );
-}
-
-fn are_idle(slots: &[Slot]) -> bool {
-    slots.iter().all(|slot| slot.is_idle())
-}
-
-/// Has workers go over the records that are ahead in some slots, while this thread reads on in the logs of others.
-fn go_and_fill<R: Threads + Sync, F: Folder>(
-    rt: &R,
+/// Gives the files back, and keeps the logs that are good.
+fn gather<F: Folder>(
     alloc: Global,
     format: Format,
     folder: &mut F,
-    workers: usize,
-    going: &mut [Slot],
-    filling: &mut [Slot],
-    batch: &mut Batch,
-) -> Result<(), Trouble>
-    requires workers { 1 ≤ workers }
-    requires so { (told : Option Content) × (dir : List ℕ) × (rows : List Row) × All (IsSlot format told dir rows) going.old }
-    ensures goes { (told : Option Content) (dir : List ℕ) (rows : List Row) → All (IsSlot format told dir rows) going.old → All (IsSlot format told dir rows) going.new }
-    ensures fills { (dir : List ℕ) (rows : List Row) → All (IsSlot format (F.state folder.old).content dir rows) filling.old
-        → IsBatch format (F.state folder.old).content dir rows batch.old
-        → OnOk result (All (IsSlot format (F.state folder.old).content dir rows) filling.new × IsBatch format (F.state folder.old).content dir rows batch.new) }
-
-    ensures reads { OnlyReads F.Folder folder.old folder.new (IsErrOf result Trouble.Failed) }
-{
-    if are_idle(going) {
-        return fill_all(alloc, format, folder, filling, batch);
-    }
-    let mut go = ||
-        requires workers { 1 ≤ workers }
-        requires so { (told : Option Content) × (dir : List ℕ) × (rows : List Row) × All (IsSlot format told dir rows) going.now }
-        ensures goes { (told : Option Content) (dir : List ℕ) (rows : List Row) → All (IsSlot format told dir rows) going.entry.now → All (IsSlot format told dir rows) going.exit.now }
-    { go_all(rt, alloc, format, going, workers) };
-    let mut fill = || fill_all(alloc, format, folder, filling, batch);
-    let (_, filled) = join_mut(rt, &mut go, &mut fill);
-    filled
-}
-
-/// Goes over the logs of a batch, and keeps those that are good: the records in half of the slots, while the others are filled.
-fn read_all<R: Threads + Sync, F: Folder>(
-    rt: &R,
-    alloc: Global,
-    format: Format,
-    folder: &mut F,
-    mut batch: Batch,
-    workers: usize,
-    some: &mut [Slot],
-    others: &mut [Slot],
+    mut jobs: Vec<Job<F::File>>,
 ) -> Result<Vec<Ahead>, Trouble>
-    requires workers { 1 ≤ workers }
-    requires so { (dir : List ℕ) × (rows : List Row) × All (IsSlot format (F.state folder.old).content dir rows) some.old
-        × All (IsSlot format (F.state folder.old).content dir rows) others.old × IsBatch format (F.state folder.old).content dir rows batch }
-    ensures ahead { (dir : List ℕ) (rows : List Row) → All (IsSlot format (F.state folder.old).content dir rows) some.old
-        → All (IsSlot format (F.state folder.old).content dir rows) others.old → IsBatch format (F.state folder.old).content dir rows batch
+    requires so { (dir : List ℕ) × (rows : List Row) × All (IsJob F.File.rest F.File.faults format (F.state folder.old).content dir rows) jobs.items }
+    ensures ahead { (dir : List ℕ) (rows : List Row) → All (IsJob F.File.rest F.File.faults format (F.state folder.old).content dir rows) jobs.items
         → IfOk result (λ ahead. All (IsAhead format (F.state folder.old).content dir rows) ahead.items) }
 
     ensures reads { OnlyReads F.Folder folder.old folder.new (IsErrOf result Trouble.Failed) }
 {
-    fill_all(alloc, format, folder, some, &mut batch)?;
-    'rounds: for _ in 0..u64::MAX {
-        if are_idle(some) && are_idle(others) {
-            return Ok(batch.ahead);
+    let mut ahead = Vec::new(alloc);
+    'jobs: while let Some(job) = jobs.pop() {
+        if let Some(read) = close(folder, job)? {
+            ahead.push(read)?;
         }
-        go_and_fill(rt, alloc, format, folder, workers, some, others, &mut batch)?;
-        go_and_fill(rt, alloc, format, folder, workers, others, some, &mut batch)?;
     }
-    Ok(batch.ahead)
+    Ok(ahead)
 }
 
 /// The logs of the lanes of the root's next region that are good by what their records and rows alone tell, where there are
-/// several lanes and workers, and records enough.
+/// several lanes and workers, and records enough. Together they have no more segments than a folder may have.
 pub fn read_ahead<R: Threads + Sync, F: Folder>(
     rt: &R,
     alloc: Global,
@@ -287,28 +258,17 @@ pub fn read_ahead<R: Threads + Sync, F: Folder>(
     ensures reads { OnlyReads F.Folder folder.old folder.new (IsErrOf result Trouble.Failed) }
 {
     let lanes = lanes_of(alloc, rows, stack.place, region)?;
-    let (records, most) = records_of(rows, &lanes);
+    let all = records_of(rows, &lanes);
     let count = workers.min(lanes.len());
     let Some(fork) = fork_of(&stack.forks, region) else {
         return Ok(Vec::new(alloc));
     };
-    if count < 2 || records < FEW {
+    if count < 2 || all < FEW {
         return Ok(Vec::new(alloc));
     }
-    let size = MOST.min(most as usize);
-    let mut some = slots_of(alloc, count, size)?;
-    let mut others = slots_of(alloc, count.min(lanes.len() - count), size)?;
-    let sources = sources_of(alloc, folder, dir, rows, &lanes, fork)?;
-    let ahead = Vec::new(alloc);
-    let batch = Batch { sources, ahead };
-    read_all(
-        rt,
-        alloc,
-        format,
-        folder,
-        batch,
-        workers,
-        &mut some,
-        &mut others,
-    )
+    let lanes = shuffled(alloc, &lanes, count)?;
+    let room = MAX_SEGMENTS.saturating_sub(stack.segments);
+    let mut jobs = jobs_of(alloc, folder, dir, rows, &lanes, fork, room, all)?;
+    go_all(rt, alloc, format, &mut jobs, count);
+    gather(alloc, format, folder, jobs)
 }

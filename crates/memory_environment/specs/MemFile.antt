@@ -4,12 +4,12 @@ use Rattle.memory_environment.specs.InMemory.{Counted}
 use Rattle.memory_environment.specs.declared.file.MemFile.{MemFile}
 
 -- the bytes that are still to be read
-abbrev pub left_of : MemFile → List ℕ
-left_of file = drop file.place file.bytes.items
+abbrev pub bytes_left : MemFile → List ℕ
+bytes_left file = drop file.place file.bytes.items
 
 -- it tells them
-abbrev pub rest_of : MemFile → Option (List ℕ)
-rest_of file = Some (left_of file)
+abbrev pub told_rest : MemFile → Option (List ℕ)
+told_rest file = Some (bytes_left file)
 
 -- how often a read failed
 abbrev pub faults_of : MemFile → ℕ

@@ -48,8 +48,8 @@ abbrev pub roots_of : MemFolder → ℕ
 roots_of folder = folder.roots
 
 -- all that calls that only read leave
-abbrev pub state_of : MemFolder → FolderState
-state_of folder = record { content = content_of folder; write_faults = write_faults_of folder; roots = roots_of folder }
+abbrev pub folder_state : MemFolder → FolderState
+folder_state folder = record { content = content_of folder; write_faults = write_faults_of folder; roots = roots_of folder }
 
 -- how many calls there were, those of `discard` and `close_file` left out
 abbrev pub calls_of : MemFolder → ℕ
@@ -85,7 +85,7 @@ pub record IsUncounted (old new : MemFolder) : Type 0 where
 
 -- only plans may differ
 pub record IsSame (old new : MemFolder) : Type 0 where
-  pub state : state_of new ≡ state_of old
+  pub state : folder_state new ≡ folder_state old
   pub reads : read_faults_of new ≡ read_faults_of old
   pub calls : calls_of new ≡ calls_of old
   pub failing : failing_of new ≡ failing_of old

@@ -3,7 +3,7 @@ ghost use Rattle.std.specs.Prelude.{◌≡◌, ◌≤◌, ◌↔◌, [], length,
 ghost use Rattle.std.specs.Option.{option_map};
 ghost use Rattle.sw_base.specs.Environment.{HasCause, Reads, WhereTold};
 ghost use Rattle.memory_environment.specs.InMemory.{CountsCall};
-ghost use Rattle.memory_environment.specs.MemFile.{left_of, rest_of, faults_of, calls_of, failing_of, counted_of};
+ghost use Rattle.memory_environment.specs.MemFile.{bytes_left, told_rest, faults_of, calls_of, failing_of, counted_of};
 
 use crate::calls::Calls;
 use crate::files::copy_from;
@@ -22,7 +22,7 @@ pub struct MemFile {
 impl MemFile {
     // A file with these bytes, of which these reads are to fail.
     pub(crate) fn new(alloc: Global, bytes: &[u8], failing: &[u64]) -> Result<MemFile, Memory>
-        ensures left { IfOk result (λ file. left_of file ≡ bytes.now) }
+        ensures left { IfOk result (λ file. bytes_left file ≡ bytes.now) }
         ensures faults { IfOk result (λ file. faults_of file ≡ 0) }
         ensures calls { IfOk result (λ file. calls_of file ≡ 0) }
         ensures failing { IfOk result (λ file. failing_of file ≡ failing.now) }
@@ -44,18 +44,18 @@ impl MemFile {
 }
 
 impl File for MemFile {
-    ghost rest = { rest_of };
+    ghost rest = { told_rest };
 
     ghost faults = { faults_of };
 
     #[tactic(auto, using(crate::proofs::Rests::reads_rest))]
     fn read(&mut self, _alloc: Global, into: &mut [u8]) -> Result<usize, Trouble>
         ensures fits { IfOk result (λ count. count ≤ length into.old) }
-        ensures bytes { IfOk result (λ count. WhereTold (rest_of self.old) (λ bytes. Reads bytes 0 count into.new)) }
-        ensures passed { IfOk result (λ count. rest_of self.new ≡ option_map (drop count) (rest_of self.old)) }
+        ensures bytes { IfOk result (λ count. WhereTold (told_rest self.old) (λ bytes. Reads bytes 0 count into.new)) }
+        ensures passed { IfOk result (λ count. told_rest self.new ≡ option_map (drop count) (told_rest self.old)) }
         ensures rest { IfOk result (λ count. drop count into.new ≡ drop count into.old) }
         ensures unread { OnErr result (into.new ≡ into.old) }
-        ensures kept { OnErr result (left_of self.new ≡ left_of self.old) }
+        ensures kept { OnErr result (bytes_left self.new ≡ bytes_left self.old) }
 
         ensures cause { HasCause (faults_of self.old) (faults_of self.new) result }
         ensures no_fault { (IsErrOf result Trouble.Failed → ⊥) → faults_of self.new ≡ faults_of self.old }

@@ -3,8 +3,8 @@ ghost use Rattle.std.specs.Prelude.{◌≡◌, ◌<◌, ◌≤◌, ◌↔◌, []
 ghost use Rattle.std.specs.Bool.{OnFalse};
 ghost use Rattle.std.specs.Option.{option_copied, option_map};
 ghost use Rattle.sw_base.specs.Environment.{HasCause, LeavesPrefix, Reads, Rose, TakesFaults, WhereTold, empty_text, next_count, no_files, with_file, with_log, with_put};
-ghost use Rattle.memory_environment.specs.MemFolder.{content_of, held_of, sealed_of, read_faults_of, roots_of, state_of, write_faults_of, calls_of, failing_of, plans_of, CountsRead, CountsSeal, CountsWrite, IsSame, IsUncounted};
-ghost use Rattle.memory_environment.specs.MemFile.{rest_of, faults_of as file_faults_of, calls_of as file_calls_of, failing_of as file_failing_of};
+ghost use Rattle.memory_environment.specs.MemFolder.{content_of, held_of, sealed_of, read_faults_of, roots_of, folder_state, write_faults_of, calls_of, failing_of, plans_of, CountsRead, CountsSeal, CountsWrite, IsSame, IsUncounted};
+ghost use Rattle.memory_environment.specs.MemFile.{told_rest, faults_of as file_faults_of, calls_of as file_calls_of, failing_of as file_failing_of};
 ghost use Rattle.memory_environment.specs.MemLog.{dir_of, path_of, text_of, faults_of, bytes_of, pieces_of, failing_of as log_failing_of, plans_of as log_plans_of};
 ghost use Rattle.sw_base.specs.Names.{log_name};
 ghost use Rattle.memory_environment.specs.Plans.{FailsAsPlanned};
@@ -185,7 +185,7 @@ impl MemFolder {
 
     // Counts that a root's log is asked for.
     pub(crate) fn count_root(&mut self)
-        ensures counts { state_of self.new ≡ record (state_of self.old) { roots = next_count (roots_of self.old) } }
+        ensures counts { folder_state self.new ≡ record (folder_state self.old) { roots = next_count (roots_of self.old) } }
         ensures same_reads { read_faults_of self.new ≡ read_faults_of self.old }
         ensures same_calls { calls_of self.new ≡ calls_of self.old }
         ensures same_failing { failing_of self.new ≡ failing_of self.old }
@@ -200,14 +200,14 @@ impl Folder for MemFolder {
 
     type File = MemFile;
 
-    ghost state = { state_of };
+    ghost state = { folder_state };
 
     ghost read_faults = { read_faults_of };
 
     fn size(&mut self, _alloc: Global, name: &str) -> Result<Option<u64>, Trouble>
         ensures size { IfOk result (λ size. WhereTold (content_of self.old) (λ c. size ≡ option_map length (c.held name.now))) }
 
-        ensures same { state_of self.new ≡ state_of self.old }
+        ensures same { folder_state self.new ≡ folder_state self.old }
         ensures cause { HasCause (read_faults_of self.old) (read_faults_of self.new) result }
         ensures no_fault { (IsErrOf result Trouble.Failed → ⊥) → read_faults_of self.new ≡ read_faults_of self.old }
 
@@ -232,7 +232,7 @@ impl Folder for MemFolder {
         ensures rest { IfOk result (λ count. drop count into.new ≡ drop count into.old) }
         ensures unread { OnErr result (into.new ≡ into.old) }
 
-        ensures same { state_of self.new ≡ state_of self.old }
+        ensures same { folder_state self.new ≡ folder_state self.old }
         ensures cause { HasCause (read_faults_of self.old) (read_faults_of self.new) result }
         ensures no_fault { (IsErrOf result Trouble.Failed → ⊥) → read_faults_of self.new ≡ read_faults_of self.old }
 
@@ -249,12 +249,12 @@ impl Folder for MemFolder {
     }
 
     fn open_file(&mut self, alloc: Global, name: &str) -> Result<Option<MemFile>, Trouble>
-        ensures rest { IfOk result (λ found. WhereTold (content_of self.old) (λ c. option_map rest_of found ≡ option_map Some (c.held name.now))) }
+        ensures rest { IfOk result (λ found. WhereTold (content_of self.old) (λ c. option_map told_rest found ≡ option_map Some (c.held name.now))) }
         ensures file_faults { IfOk result (λ found. IfSome found (λ file. file_faults_of file ≡ 0)) }
         ensures file_calls { IfOk result (λ found. IfSome found (λ file. file_calls_of file ≡ 0)) }
         ensures file_failing { IfOk result (λ found. IfSome found (λ file. file_failing_of file ≡ unwrap_or ((plans_of self.old).files name.now) [])) }
 
-        ensures same { state_of self.new ≡ state_of self.old }
+        ensures same { folder_state self.new ≡ folder_state self.old }
         ensures cause { HasCause (read_faults_of self.old) (read_faults_of self.new) result }
         ensures no_fault { (IsErrOf result Trouble.Failed → ⊥) → read_faults_of self.new ≡ read_faults_of self.old }
 
@@ -271,7 +271,7 @@ impl Folder for MemFolder {
     }
 
     fn close_file(&mut self, file: MemFile)
-        ensures same { state_of self.new ≡ state_of self.old }
+        ensures same { folder_state self.new ≡ folder_state self.old }
         ensures file_faults { TakesFaults (file_faults_of file) (read_faults_of self.old) (read_faults_of self.new) }
         ensures no_faults { file_faults_of file ≡ 0 → read_faults_of self.new ≡ read_faults_of self.old }
 

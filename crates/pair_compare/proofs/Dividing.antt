@@ -1,16 +1,14 @@
 -- Dividing segments by a field in which their labels may differ.
-use Rattle.std.proofs.Common.{◌≡◌, ◌⊎◌, ℕ, zero, suc, ◌%◌, ◌<◌, ◌≤◌, List, [], ◌∷◌, ◌++◌, Bool, true, false, not, nat_le, cond, Bor, Contains, filter, length, inl, inr, refl, sym, ap, ◌∙◌, subst, arith}
+use Rattle.std.proofs.Common.{◌≡◌, ℕ, zero, suc, ◌%◌, ◌<◌, ◌≤◌, List, [], ◌∷◌, ◌++◌, Bool, true, false, cond, Bor, Contains, filter, length, inl, inr, refl, sym, ap, ◌∙◌, subst, arith}
 use Rattle.std.specs.Prelude.{Some, slice_get}
 use Rattle.std.proofs.lemmas.List.{append-nil}
-use Rattle.sw_base.proofs.Lists.{contains_filtered}
 use Rattle.log_segment.specs.declared.segment.Segment.{Segment}
 use Rattle.race_model.specs.Label.{Triple, IsConcurrent, IsLabelBefore}
 use Rattle.race_laws.proofs.LabelOrder.{label_before_longer}
-use Rattle.pair_compare.specs.Fields.{Agrees, AreHalves, field_value, label_value}
+use Rattle.pair_compare.specs.Fields.{Agrees, field_value, label_value}
 use Rattle.pair_compare.specs.Groups.{pointed}
 use Rattle.pair_compare.specs.declared.field.Field.{Field}
 use Rattle.pair_compare.specs.declared.field.Field.TheVariants.{Depth, Span, Barrier, Residue, Offset}
-use Rattle.pair_compare.specs.declared.field.Split.{Split}
 use Rattle.pair_compare.proofs.Adds.{not_in_nothing}
 use Rattle.pair_compare.proofs.FieldOrder.{AreOrdered, barriers_order, lanes_apart, offsets_order, spans_apart}
 
@@ -107,31 +105,3 @@ pub Contains-filter : {X : Type 0} (p : X → Bool) (xs : List X) (x : X) → p 
 Contains-filter p [] x passes h = absurd (not_in_nothing x h)
 Contains-filter p (y ∷ ys) x passes (zero, within, is) = subst (λ (z : _). Contains (cond (p y) (y ∷ filter p ys) (filter p ys)) z) is (first_in y (filter p ys) (p y) (ap p is ∙ passes))
 Contains-filter p (y ∷ ys) x passes (suc k, within, is) = kept_in p x y (filter p ys) (p y) (Contains-filter p ys x passes (k, omega arith, is))
-
--- what the halves hold together, and how they stand to each other
-module _ (level middle : ℕ) (field : Field) (refs : List (Bor Segment)) (parts : Split) (cut : AreHalves level field middle refs parts) where
-  abbrev low : Bor Segment → Bool
-  low s = nat_le (label_value level field s.now.label) middle
-
-  pub in_half : (a : Segment) → Contains (pointed refs) a → Contains (pointed parts.left.items) a ⊎ Contains (pointed parts.right.items) a
-  in_half a h = at (low (points_to refs a h).pointer) refl
-    where
-      at : (b : Bool) → low (points_to refs a h).pointer ≡ b → Contains (pointed parts.left.items) a ⊎ Contains (pointed parts.right.items) a
-      at true e = let to = points_to refs a h in
-          inl (subst (λ (s : Segment). Contains (pointed parts.left.items) s) to.is (pointed_by parts.left.items to.pointer (subst (λ (ss : List (Bor Segment)). Contains ss to.pointer) (sym cut.left) (Contains-filter low refs to.pointer e to.listed))))
-      at false e = let to = points_to refs a h in
-          inr (subst (λ (s : Segment). Contains (pointed parts.right.items) s) to.is (pointed_by parts.right.items to.pointer (subst (λ (ss : List (Bor Segment)). Contains ss to.pointer) (sym cut.right) (Contains-filter (λ s. not (low s)) refs to.pointer (ap not e) to.listed))))
-
-  pub from_left : (a : Segment) → Contains (pointed parts.left.items) a → Contains (pointed refs) a × (label_value level field a.label ≤ middle)
-  from_left a h =
-      let to = points_to parts.left.items a h in
-      let both = contains_filtered low refs to.pointer (subst (λ (ss : List (Bor Segment)). Contains ss to.pointer) cut.left to.listed) in
-      let below : label_value level field to.pointer.now.label ≤ middle = grind arith in
-      (subst (λ (s : Segment). Contains (pointed refs) s) to.is (pointed_by refs to.pointer both.0), subst (λ (s : Segment). label_value level field s.label ≤ middle) to.is below)
-
-  pub from_right : (a : Segment) → Contains (pointed parts.right.items) a → Contains (pointed refs) a × (middle < label_value level field a.label)
-  from_right a h =
-      let to = points_to parts.right.items a h in
-      let both = contains_filtered (λ s. not (low s)) refs to.pointer (subst (λ (ss : List (Bor Segment)). Contains ss to.pointer) cut.right to.listed) in
-      let above : middle < label_value level field to.pointer.now.label = grind arith in
-      (subst (λ (s : Segment). Contains (pointed refs) s) to.is (pointed_by refs to.pointer both.0), subst (λ (s : Segment). middle < label_value level field s.label) to.is above)

@@ -238,6 +238,13 @@ same_more groups i d new pair inside same = set_within IsGroupPair groups i new 
       λ h. subst (λ (g : Group). IsGroupPair g pair) (sym there) (parted_within (OneHas IsRunOf new.members.items) (OneHas IsRunOf old.members.items) pair (λ n. (same n).0) h),
     ))
 
+-- groups of which each has the same runs as before
+pub same_groups : (olds news : List Group) → length news ≡ length olds → ((i : ℕ) (d : Group) → i < length olds → IsSameGroup (get_or olds i d) (get_or news i d)) → (pair : ℕ × ℕ) → OneHas IsGroupPair news pair ↔ OneHas IsGroupPair olds pair
+same_groups olds news same each pair = (
+  OneHas-each IsGroupPair news olds pair (sym same) (λ i d inside h. parted_within (OneHas IsRunOf (get_or news i d).members.items) (OneHas IsRunOf (get_or olds i d).members.items) pair (λ n. (each i d (omega arith) n).0) h),
+  OneHas-each IsGroupPair olds news pair same (λ i d inside h. parted_within (OneHas IsRunOf (get_or olds i d).members.items) (OneHas IsRunOf (get_or news i d).members.items) pair (λ n. (each i d inside n).1) h),
+)
+
 -- a member or a group with the same runs adds the same
 pub Adds-member : (members more : List Member) (old new : Member) → new.part ≡ old.part → new.runs.now ≡ old.runs.now → more ≡ members ++ new ∷ [] → GrowsBy (OneHas IsRunOf members) (OneHas IsRunOf more) (IsRunOf old)
 Adds-member members more old new part runs is = subst (λ (ms : List Member). GrowsBy (OneHas IsRunOf members) (OneHas IsRunOf ms) (IsRunOf old)) (sym is)

@@ -163,3 +163,21 @@ fewer_left level Offset few = omega arith
 
 pub falls : (a b d e : ℕ) → a + 1 ≡ b → d < 2 ^ 64 → a * 2 ^ 64 + d < b * 2 ^ 64 + e
 falls a b d e next small = omega arith
+
+-- the next field is divided in fewer steps
+pub record GoesOn (level least most : ℕ) (field : Field) (refs : List (Bor Segment)) (next : ℕ × Field) (low high : ℕ) : Type 0 where
+  pub can : CanDivide next.0 next.1 low high refs
+  pub few : next.0 ≤ 5
+  pub less : ((5 - next.0) * 5 + fields_left next.1) * 2 ^ 64 + (high - low) < ((5 - level) * 5 + fields_left field) * 2 ^ 64 + (most - least)
+
+pub goes_on : (level least most low high : ℕ) (field : Field) (refs : List (Bor Segment)) (next : ℕ × Field) → most ≤ least → 1 ≤ length refs → CanDivide level field least most refs → (HasNoLevel field most → ⊥) → next ≡ (next_level field level, next_field field)
+    → AreWithin next.0 next.1 low high refs → high < 2 ^ 64 → GoesOn level least most field refs next low high
+goes_on level least most low high field refs next same some can going is within fits =
+    let few : next.0 ≤ 5 = subst (λ (p : ℕ × Field). p.0 ≤ 5) (sym is) (next_alike level least most field refs same some can going).few in
+    let left : (5 - next.0) * 5 + fields_left next.1 + 1 ≡ (5 - level) * 5 + fields_left field =
+    subst (λ (p : ℕ × Field). (5 - p.0) * 5 + fields_left p.1 + 1 ≡ (5 - level) * 5 + fields_left field) (sym is) (fewer_left level field (next_alike level least most field refs same some can going).few) in
+    record {
+      can = next_can level least most low high field refs next same some can going is within;
+      few = few;
+      less = falls ((5 - next.0) * 5 + fields_left next.1) ((5 - level) * 5 + fields_left field) (high - low) (most - least) left (omega (arith, fits));
+    }

@@ -7,7 +7,7 @@ use Rattle.stride_summary.specs.declared.run.Run.{Run}
 use Rattle.stride_summary.specs.Run.{HasRunByte, last_byte}
 use Rattle.pair_compare.specs.Conflict.{GrowsBy, OneHas}
 use Rattle.pair_compare.specs.Sweeps.{IsHullOf, IsStretch, Reach, Single, Whole, bytes_at}
-use Rattle.pair_compare.specs.Work.{IsMemberReach, IsMetReach, IsMetSingle, IsMetStretch, IsPairAt, OnlyReads}
+use Rattle.pair_compare.specs.Work.{IsMemberReach, IsMetReach, IsMetSingle, IsMetStretch, IsPairAt, NeverWrites}
 use Rattle.pair_compare.specs.declared.member.Member.{Member}
 use Rattle.pair_compare.specs.declared.hull.Hull.{Hull}
 use Rattle.pair_compare.proofs.Adds.{Adds-both, Adds-pushed, Adds-same}
@@ -53,17 +53,17 @@ member_meets singly low high member reach h =
     (omega arith, omega arith)
 
 -- a member that doesn't write
-pub still_quiet : (low high : ℕ) (member : Member) → member.writes ≡ false → OnlyReads low high member
+pub still_quiet : (low high : ℕ) (member : Member) → member.writes ≡ false → NeverWrites low high member
 still_quiet low high member none singly reach h = subst (λ (r : Run). r.write ≡ false) (sym h.has.0.of_run) (All-contains (λ (r : Run). r.write ≡ false) member.runs.now h.one (member.quiet none) h.listed)
 
 -- where nobody writes, nothing conflicts
 pub not_so : {b : Bool} → IsTrue b → b ≡ false → ⊥
 not_so w e = cc
 
-still_one : (singly low high : ℕ) (members : List Member) (reach : Reach) → All (OnlyReads low high) members → OneHas (IsMemberReach singly low high) members reach → reach.run.write ≡ false
-still_one singly low high members reach still h = All-contains (OnlyReads low high) members h.one still h.listed singly reach h.has
+still_one : (singly low high : ℕ) (members : List Member) (reach : Reach) → All (NeverWrites low high) members → OneHas (IsMemberReach singly low high) members reach → reach.run.write ≡ false
+still_one singly low high members reach still h = All-contains (NeverWrites low high) members h.one still h.listed singly reach h.has
 
-pub no_pair : (members : List Member) (singly low high : ℕ) (pair : ℕ × ℕ) → All (OnlyReads low high) members → IsPairAt members singly low high pair → ⊥
+pub no_pair : (members : List Member) (singly low high : ℕ) (pair : ℕ × ℕ) → All (NeverWrites low high) members → IsPairAt members singly low high pair → ⊥
 no_pair members singly low high pair still h = elim h.lines.conflict.writes [
   | inl writes ↦ not_so writes (still_one singly low high members h.a still h.a_in)
   | inr writes ↦ not_so writes (still_one singly low high members h.b still h.b_in)

@@ -7,7 +7,7 @@ use Rattle.std.proofs.Math.Seq.{drop-append-add, drop-length}
 use Rattle.std.proofs.lemmas.List.Elements.{Contains-append_cases, Contains-append_left, Contains-append_right, Contains-push, Contains-push_cases}
 use Rattle.stride_summary.specs.declared.run.Run.{Run}
 use Rattle.pair_compare.specs.Conflict.{AddsPairs, IsLinesOf, IsRunPair, OneHas}
-use Rattle.pair_compare.specs.Sweeps.{AddsHull, AddsHulls, AreOfKind, DropsEnded, IsActive, IsHullOf, IsHullPair, IsMetPair, IsReachedPair, Reach, Settles, reach_of}
+use Rattle.pair_compare.specs.Sweeps.{AddsHull, AddsHulls, AreOfKind, DropsEnded, IsActive, IsHullOf, IsHullPair, IsMetPair, IsReachedPair, Reach, DropsOnlyEnded, reach_of}
 use Rattle.pair_compare.specs.declared.active.Active.{Active}
 use Rattle.pair_compare.specs.declared.hull.Hull.{Hull}
 use Rattle.pair_compare.proofs.Adds.{AddsPairs-both, AddsPairs-same, OneHas-cons, OneHas-first, not_in_nothing}
@@ -135,7 +135,7 @@ module _ (block : List Hull) (i : ℕ) (x : Hull) (within : i < length block) (i
   last = subst (λ (hs : List Hull). Contains hs x) (sym more) (Contains-push (take i block) x)
 
   -- one more hull settles
-  pub settles_more : (a0 a1 a2 : Active) → Settles (take i block) a0 a1 → DropsEnded x a1 a2 → Settles (take (i + 1) block) a0 a2
+  pub settles_more : (a0 a1 a2 : Active) → DropsOnlyEnded (take i block) a0 a1 → DropsEnded x a1 a2 → DropsOnlyEnded (take (i + 1) block) a0 a2
   settles_more a0 a1 a2 first then = record {
     kept = λ other byte h long low. let begins = low x last in then.kept other (first.kept other byte h long (λ hull there. low hull (among hull there))) (omega arith);
     only = λ other h. first.only other (then.only other h);
@@ -143,7 +143,7 @@ module _ (block : List Hull) (i : ℕ) (x : Hull) (within : i < length block) (i
   }
 
   -- and meets what was active before all of them
-  pub reached_before : (from : ℕ) (a0 a1 : Active) (k1 k2 : List (ℕ × ℕ)) → IsNonDecreasingBy (λ hull. hull.low) block → Settles (take i block) a0 a1 → AddsPairs k1 k2 (IsReachedPair from x a1) → AddsPairs k1 k2 (IsReachedPair from x a0)
+  pub reached_before : (from : ℕ) (a0 a1 : Active) (k1 k2 : List (ℕ × ℕ)) → IsNonDecreasingBy (λ hull. hull.low) block → DropsOnlyEnded (take i block) a0 a1 → AddsPairs k1 k2 (IsReachedPair from x a1) → AddsPairs k1 k2 (IsReachedPair from x a0)
   reached_before from a0 a1 k1 k2 up settles adds = AddsPairs-same k1 k2 (IsReachedPair from x a1) (IsReachedPair from x a0)
       (λ pair h. record { two = record { late = h.two.late; other = h.two.other; among = settles.only h.two.other h.two.among; lines = h.two.lines }; meets = h.meets })
       (λ pair h. record {
@@ -168,7 +168,7 @@ module _ (block : List Hull) (i : ℕ) (x : Hull) (within : i < length block) (i
   }
 
 -- before the first
-pub settles_none : (active : Active) → AreOfKind active → (hulls : List Hull) → Settles (take 0 hulls) active active
+pub settles_none : (active : Active) → AreOfKind active → (hulls : List Hull) → DropsOnlyEnded (take 0 hulls) active active
 settles_none active kinds hulls = record { kept = λ other byte h long low. h; only = λ other h. h; kinds = kinds }
 
 pub puts_none : (active : Active) → AreOfKind active → (hulls : List Hull) → AddsHulls (take 0 hulls) active active
@@ -269,7 +269,7 @@ module _ (from : ℕ) (hulls rest block later : List Hull) (up : IsNonDecreasing
   rest_has : (hull : Hull) → Contains (block ++ later) hull → Contains rest hull
   rest_has hull h = subst (λ (hs : List Hull). Contains hs hull) (sym whole) h
 
-  pub swept_more : ((a b : Hull) → Contains block a → Contains block b → a.part ≡ b.part) → Settles block a0 a1 → AddsPairs k1 k2 (OneHas (λ hull. IsReachedPair from hull a0) block) → AddsHulls block a1 a2 → IsSwept from hulls later k0 k2 a2
+  pub swept_more : ((a b : Hull) → Contains block a → Contains block b → a.part ≡ b.part) → DropsOnlyEnded block a0 a1 → AddsPairs k1 k2 (OneHas (λ hull. IsReachedPair from hull a0) block) → AddsHulls block a1 a2 → IsSwept from hulls later k0 k2 a2
   swept_more alike settles adds puts = record {
     done = done ++ block;
     split = next;

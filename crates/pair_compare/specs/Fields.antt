@@ -1,6 +1,7 @@
 -- What labels are compared by: level by level, at each whether it is there, and the span, the barrier number, the lane and the offset.
-use Rattle.std.specs.Prelude.{◌≡◌, ℕ, ◌+◌, ◌%◌, ◌≤◌, List, ◌∷◌, ◌++◌, length, All, filter, not, nat_le, Option, Some, None, slice_get}
+use Rattle.std.specs.Prelude.{◌≡◌, ℕ, ◌+◌, ◌%◌, ◌<◌, ◌≤◌, List, ◌∷◌, ◌++◌, length, All, Option, Some, None, slice_get, slice_index_or}
 use Rattle.std.specs.Borrow.{Bor}
+use Rattle.std.specs.List.Sorted.{IsNonDecreasingBy}
 use Rattle.race_model.specs.Label.{Triple}
 use Rattle.log_segment.specs.declared.segment.Segment.{Segment}
 use Rattle.stride_summary.specs.declared.run.Run.{Run}
@@ -9,7 +10,6 @@ use Rattle.pair_compare.specs.Conflict.{OneHas}
 use Rattle.pair_compare.specs.Groups.{IsNumbered}
 use Rattle.pair_compare.specs.declared.field.Field.{Field}
 use Rattle.pair_compare.specs.declared.field.Field.TheVariants.{Depth, Span, Barrier, Residue, Offset}
-use Rattle.pair_compare.specs.declared.field.Split.{Split}
 
 abbrev pub field_value : Field → Option Triple → ℕ
 field_value field None = 0
@@ -55,10 +55,15 @@ pub record AreAlike (level : ℕ) (field : Field) (refs : List (Bor Segment)) : 
 abbrev pub AreWithin : ℕ → Field → ℕ → ℕ → List (Bor Segment) → Type 0
 AreWithin level field low high refs = All (λ s. (low ≤ label_value level field s.now.label) × (label_value level field s.now.label ≤ high)) refs
 
--- those with a value up to the middle are on the left, those above it on the right
-pub record AreHalves (level : ℕ) (field : Field) (middle : ℕ) (refs : List (Bor Segment)) (parts : Split) : Type 0 where
-  pub left : parts.left.items ≡ filter (λ s. nat_le (label_value level field s.now.label) middle) refs
-  pub right : parts.right.items ≡ filter (λ s. not (nat_le (label_value level field s.now.label) middle)) refs
+-- the values don't descend
+abbrev pub AreInOrder : ℕ → Field → List (Bor Segment) → Type 0
+AreInOrder level field refs = IsNonDecreasingBy (λ s. label_value level field s.now.label) refs
+
+-- the first so many have a value up to the middle, and the others a greater one
+pub record AreCut (level : ℕ) (field : Field) (middle n : ℕ) (refs : List (Bor Segment)) : Type 0 where
+  pub within : n ≤ length refs
+  pub first : (i : ℕ) (d : Bor Segment) → i < n → label_value level field (slice_index_or refs i d).now.label ≤ middle
+  pub rest : (i : ℕ) (d : Bor Segment) → n ≤ i → i < length refs → middle < label_value level field (slice_index_or refs i d).now.label
 
 -- how many fields of the level are left
 abbrev pub fields_left : Field → ℕ

@@ -40,3 +40,7 @@ pub record IsSameMember (old new : Member) : Type 0 where
 -- the groups have the same runs
 abbrev pub IsSameGroup : Group → Group → Type 0
 IsSameGroup old new = (numbered : ℕ × Run) → OneHas IsRunOf new.members.items numbered ↔ OneHas IsRunOf old.members.items numbered
+
+-- a call that measures keeps the group's runs
+pub record KeepsGroup (old new : Group) : Type 0 where
+  pub same : IsSameGroup old new

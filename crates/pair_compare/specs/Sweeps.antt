@@ -85,7 +85,7 @@ pub record AddsHull (hull : Hull) (old new : Active) : Type 0 where
   pub kinds : AreOfKind new
 
 -- of what was active only what ends before one of the hulls was dropped
-pub record Settles (hulls : List Hull) (old new : Active) : Type 0 where
+pub record DropsOnlyEnded (hulls : List Hull) (old new : Active) : Type 0 where
   pub kept : (other : Hull) (byte : ℕ) → IsActive old other → byte ≤ other.high → ((hull : Hull) → Contains hulls hull → hull.low ≤ byte) → IsActive new other
   pub only : (other : Hull) → IsActive new other → IsActive old other
   pub kinds : AreOfKind new

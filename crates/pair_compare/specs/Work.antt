@@ -27,8 +27,8 @@ abbrev pub IsMemberReach : ℕ → ℕ → ℕ → Member → Reach → Type 0
 IsMemberReach singly low high member reach = OneHas (IsMetReach singly low high member.part) member.runs.now reach
 
 -- what of the member reaches into the range doesn't write
-abbrev pub OnlyReads : ℕ → ℕ → Member → Type 0
-OnlyReads low high member = (singly : ℕ) (reach : Reach) → IsMemberReach singly low high member reach → reach.run.write ≡ false
+abbrev pub NeverWrites : ℕ → ℕ → Member → Type 0
+NeverWrites low high member = (singly : ℕ) (reach : Reach) → IsMemberReach singly low high member reach → reach.run.write ≡ false
 
 -- the line pair of a conflict of runs of members of different parts, which reach over a common byte: the later one begins in the range
 abbrev pub IsPairAt : List Member → ℕ → ℕ → ℕ → ℕ × ℕ → Type 0

@@ -1,50 +1,17 @@
 //! Whether runs that reach over one another are compared with each other or address by address.
 
 use crate::collecting::bytes_at;
+use crate::counts::{Counts, FEW};
 use crate::member::Member;
 use std::alloc::Global;
 use stride_summary::Run;
 use sw_base::Memory;
 
-/// Runs of at most so many addresses are always taken one address at a time.
-const FEW: u32 = 2;
-
-/// How many stretches runs have if those of few addresses are taken one address at a time, and how many runs have more addresses.
-#[derive(Drop)]
-struct Counts {
-    stretches: u64,
-    long: u64,
-    /// How many addresses the latter have.
-    addresses: u64,
-}
-
-impl Counts {
-    fn add(&mut self, run: &Run) {
-        let count = u64::from(run.count);
-        if run.count <= FEW {
-            self.stretches = self.stretches.saturating_add(count);
-            return;
-        }
-        self.stretches = self.stretches.saturating_add(1);
-        self.long = self.long.saturating_add(1);
-        self.addresses = self.addresses.saturating_add(count);
-    }
-
-    fn add_all(&mut self, runs: &[Run]) {
-        for run in runs {
-            self.add(run);
-        }
-    }
-}
-
+// The counts of all members, which are measured.
 fn counts_of(members: &[Member]) -> Counts {
-    let mut counts = Counts {
-        stretches: 0,
-        long: 0,
-        addresses: 0,
-    };
+    let mut counts = Counts::none();
     for member in members {
-        counts.add_all(member.runs);
+        counts.add_all(&member.counts);
     }
     counts
 }

@@ -1,9 +1,9 @@
-ghost use Rattle.std.specs.Prelude.{◌≡◌, ◌↔◌, ◌≤◌, IsTrue, OnOk};
+ghost use Rattle.std.specs.Prelude.{◌≡◌, ◌↔◌, ◌<◌, ◌≤◌, IsTrue, OnOk};
 ghost use Rattle.pair_compare.specs.Conflict.{GrowsBy, OneHas};
-ghost use Rattle.pair_compare.specs.Fields.{CanDivide, HasNoLevel, IsApartPair, IsSamePair, Parts, next_field, next_level};
+ghost use Rattle.pair_compare.specs.Fields.{AreInOrder, CanDivide, HasNoLevel, IsApartPair, IsSamePair, Parts, next_field, next_level};
 ghost use Rattle.pair_compare.specs.Groups.{IsGroupPair, pointed};
 
-use crate::field::{Field, extremes, halves};
+use crate::field::{Field, count_up_to, extremes, ordered};
 use crate::group::Group;
 use crate::parting::members_of;
 use log_segment::Segment;
@@ -82,6 +82,7 @@ pub fn divide<'s>(
 ) -> Result<(), Memory>
     requires can { CanDivide level field range.0 range.1 members.now }
     requires few { level ≤ 5 }
+    requires in_order { range.0 < range.1 → AreInOrder level field members.now }
     ensures { OnOk result (GrowsBy (OneHas IsGroupPair groups.old.items) (OneHas IsGroupPair groups.new.items) (IsSamePair level field (pointed members.now))) }
 {
     let (least, most) = range;
@@ -95,24 +96,14 @@ pub fn divide<'s>(
         let (level, field) = next(level, field);
         let range = extremes(members, level, field);
         add_group(alloc, members, level, field, range, groups)?;
-        return divide(alloc, members, level, field, range, groups);
+        if range.1 <= range.0 {
+            return divide(alloc, members, level, field, range, groups);
+        }
+        let ordered = ordered(alloc, members, level, field)?;
+        return divide(alloc, ordered.as_slice(), level, field, range, groups);
     }
     let middle = least + (most - least) / 2;
-    let halves = halves(alloc, members, level, field, middle)?;
-    divide(
-        alloc,
-        halves.left.as_slice(),
-        level,
-        field,
-        (least, middle),
-        groups,
-    )?;
-    divide(
-        alloc,
-        halves.right.as_slice(),
-        level,
-        field,
-        (middle + 1, most),
-        groups,
-    )
+    let (left, right) = members.split_at(count_up_to(members, level, field, middle));
+    divide(alloc, left, level, field, (least, middle), groups)?;
+    divide(alloc, right, level, field, (middle + 1, most), groups)
 }

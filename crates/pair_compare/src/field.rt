@@ -1,5 +1,6 @@
-ghost use Rattle.std.specs.Prelude.{◌≡◌, ◌%◌, ◌^◌, ◌<◌, filter, nat_le, not, IfOk};
-ghost use Rattle.pair_compare.specs.Fields.{AreHalves, AreWithin, label_value};
+ghost use Rattle.std.specs.Prelude.{◌≡◌, ◌%◌, ◌^◌, ◌<◌, IfOk};
+ghost use Rattle.std.specs.List.Sorted.{IsPermutation};
+ghost use Rattle.pair_compare.specs.Fields.{AreCut, AreInOrder, AreWithin, label_value};
 
 use log_segment::Segment;
 use span_label::Label;
@@ -63,60 +64,35 @@ pub fn extremes(members: &[&Segment], level: usize, field: Field) -> (u64, u64)
     ranged(least, most)
 }
 
-fn up_to<'s>(
+/// The members in order of their values of the field.
+pub fn ordered<'s>(
     alloc: Global,
     members: &[&'s Segment],
     level: usize,
     field: Field,
-    middle: u64,
 ) -> Result<Vec<&'s Segment>, Memory>
-    ensures { IfOk result (λ found. found.items ≡ filter (λ s. nat_le (label_value level field s.now.label) middle) members.now) }
+    ensures same { IfOk result (λ found. IsPermutation members.now found.items) }
+    ensures in_order { IfOk result (λ found. AreInOrder level field found.items) }
 {
-    let mut found = Vec::new(alloc);
-    for member in members {
-        if value(&member.label, level, field) <= middle {
-            found.push(*member)?;
-        }
-    }
+    let mut found = Vec::from_slice(alloc, members)?;
+    found.sort_by_key(|member| value(&member.label, level, field))?;
     Ok(found)
 }
 
-fn above<'s>(
-    alloc: Global,
-    members: &[&'s Segment],
-    level: usize,
-    field: Field,
-    middle: u64,
-) -> Result<Vec<&'s Segment>, Memory>
-    ensures { IfOk result (λ found. found.items ≡ filter (λ s. not (nat_le (label_value level field s.now.label) middle)) members.now) }
+/// How many of the members, which are in order, have a value up to the middle.
+pub fn count_up_to(members: &[&Segment], level: usize, field: Field, middle: u64) -> usize
+    requires { AreInOrder level field members.now }
+    ensures { AreCut level field middle result members.now }
 {
-    let mut found = Vec::new(alloc);
-    for member in members {
-        if value(&member.label, level, field) > middle {
-            found.push(*member)?;
+    let mut low = 0;
+    let mut high = members.len();
+    'search: while low < high {
+        let at = low + (high - low) / 2;
+        if value(&members[at].label, level, field) <= middle {
+            low = at + 1;
+        } else {
+            high = at;
         }
     }
-    Ok(found)
-}
-
-/// Some segments, parted by a field of their labels.
-#[derive(Drop)]
-pub struct Split<'s> {
-    pub left: Vec<&'s Segment>,
-    pub right: Vec<&'s Segment>,
-}
-
-/// The members with a value up to the middle, and those above it.
-pub fn halves<'s>(
-    alloc: Global,
-    members: &[&'s Segment],
-    level: usize,
-    field: Field,
-    middle: u64,
-) -> Result<Split<'s>, Memory>
-    ensures { IfOk result (λ parts. AreHalves level field middle members.now parts) }
-{
-    let left = up_to(alloc, members, level, field, middle)?;
-    let right = above(alloc, members, level, field, middle)?;
-    Ok(Split { left, right })
+    low
 }

@@ -4,7 +4,7 @@ ghost use Rattle.pair_compare.specs.Conflict.{OneHas};
 ghost use Rattle.pair_compare.specs.Groups.{IsGroupPair, pointed};
 
 use crate::divide::divide;
-use crate::field::{Field, extremes};
+use crate::field::{Field, extremes, ordered};
 use crate::member::Member;
 use log_segment::Segment;
 use std::alloc::Global;
@@ -35,7 +35,8 @@ pub fn groups<'s>(alloc: Global, segments: &'s [Segment]) -> Result<Vec<Group<'s
     ensures { IfOk result (λ found. (pair : ℕ × ℕ) → OneHas IsGroupPair found.items pair ↔ IsSegmentPair segments.now pair) }
 {
     let refs = refs_of(alloc, segments)?;
-    let members = refs.as_slice();
+    let ordered = ordered(alloc, &refs, 0, Field::Depth)?;
+    let members = ordered.as_slice();
     let range = extremes(members, 0, Field::Depth);
     let mut found = Vec::new(alloc);
     divide(alloc, members, 0, Field::Depth, range, &mut found)?;

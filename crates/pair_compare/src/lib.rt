@@ -17,6 +17,7 @@ mod all;
 mod alone;
 mod collecting;
 mod conflict;
+mod counts;
 mod crowding;
 mod divide;
 mod field;

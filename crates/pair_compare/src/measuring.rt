@@ -1,7 +1,7 @@
 ghost use Rattle.std.specs.Prelude.{◌≡◌, ◌↔◌, ◌<◌, ◌≤◌, ℕ, length, slice_index_or, IfOk};
 ghost use Rattle.pair_compare.specs.Compare.{IsSegmentPair};
 ghost use Rattle.pair_compare.specs.Conflict.{OneHas};
-ghost use Rattle.pair_compare.specs.Groups.{IsGroupPair, IsSameGroup, IsSameMember};
+ghost use Rattle.pair_compare.specs.Groups.{IsGroupPair, IsSameGroup, IsSameMember, KeepsGroup};
 
 use crate::group::{Group, groups};
 use crate::member::Member;
@@ -40,14 +40,56 @@ fn measure_group<R: Threads + Sync>(rt: &R, group: &mut Group, workers: usize)
     measure_members(rt, &mut group.members, workers);
 }
 
-// One group after another, each by as many threads as there are workers if it is long.
+fn members_in(groups: &[Group]) -> usize {
+    let mut members = 0usize;
+    for group in groups {
+        members = members.saturating_add(group.members.len());
+    }
+    members
+}
+
+// Measures a group that isn't worth a thread of its own.
+fn measure_short<R: Threads + Sync>(rt: &R, group: &mut Group)
+    ensures { KeepsGroup group.old group.new }
+{
+    if group.members.len() < FEW {
+        measure_group(rt, group, 1);
+    }
+}
+
+// Measures a group that is worth all workers.
+fn measure_long<R: Threads + Sync>(rt: &R, group: &mut Group, workers: usize)
+    requires { 1 ≤ workers }
+    ensures { IsSameGroup group.old group.new }
+{
+    if group.members.len() >= FEW {
+        measure_group(rt, group, workers);
+    }
+}
+
+fn measure_all_short<R: Threads + Sync>(rt: &R, groups: &mut [Group], workers: usize)
+    requires { 1 ≤ workers }
+    ensures count { length groups.new ≡ length groups.old }
+    ensures same { (i : ℕ) (d : _) → i < length groups.old → KeepsGroup (slice_index_or groups.old i d) (slice_index_or groups.new i d) }
+{
+    let threads = threads_for(members_in(groups), workers);
+    thread::for_each_mut(
+        rt,
+        groups,
+        threads,
+        &|_place, group| { measure_short(rt, group) },
+    );
+}
+
+// The short groups at once, each by one worker, and then one long group after another, each by all.
 fn measure<R: Threads + Sync>(rt: &R, groups: &mut [Group], workers: usize)
     requires { 1 ≤ workers }
     ensures count { length groups.new ≡ length groups.old }
     ensures same { (pair : ℕ × ℕ) → OneHas IsGroupPair groups.new pair ↔ OneHas IsGroupPair groups.old pair }
 {
+    measure_all_short(rt, groups, workers);
     for group in groups {
-        measure_group(rt, group, workers);
+        measure_long(rt, group, workers);
     }
 }
 

@@ -1,9 +1,11 @@
 ghost use Rattle.std.specs.Prelude.{◌≡◌, ◌↔◌, ◌≤◌, All, IsTrue, false};
 ghost use Rattle.stride_summary.specs.Run.{last_byte};
 
+use crate::counts::Counts;
 use stride_summary::Run;
 
-/// Some runs of a segment and the number of its part. All their bytes are in a range, which is the least one after `measure`.
+/// Some runs of a segment and the number of its part. All their bytes are in a range, which is the least one after `measure`, as the
+/// counts are the runs' own then.
 #[derive(Clone, Copy)]
 pub struct Member<'s> {
     pub part: u64,
@@ -11,6 +13,7 @@ pub struct Member<'s> {
     pub low: u64,
     pub high: u64,
     pub writes: bool,
+    pub counts: Counts,
     ghost within: { All (λ run. (low ≤ run.base) × (last_byte run ≤ high)) runs.now },
     ghost quiet: { writes ≡ false → All (λ run. run.write ≡ false) runs.now },
 }
@@ -23,10 +26,12 @@ pub fn measured<'s>(part: u64, runs: &'s [Run]) -> Member<'s>
     let mut low = u64::MAX;
     let mut high = 0;
     let mut writes = false;
+    let mut counts = Counts::none();
     for run in runs {
         low = low.min(run.low());
         high = high.max(run.high());
         writes = writes || run.write;
+        counts.add(run);
     }
     Member {
         part,
@@ -34,6 +39,7 @@ pub fn measured<'s>(part: u64, runs: &'s [Run]) -> Member<'s>
         low,
         high,
         writes,
+        counts,
     }
 }
 
@@ -48,10 +54,11 @@ impl<'s> Member<'s> {
             low: 0,
             high: u64::MAX,
             writes: true,
+            counts: Counts::none(),
         }
     }
 
-    /// Finds the bytes from the first to the last of the runs, and whether one of them writes.
+    /// Finds the bytes from the first to the last of the runs, whether one of them writes, and their counts.
     pub fn measure(&mut self)
         ensures part { self.new.part ≡ self.old.part }
         ensures runs { self.new.runs.now ≡ self.old.runs.now }

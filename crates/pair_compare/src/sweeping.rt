@@ -1,7 +1,7 @@
 ghost use Rattle.std.specs.Prelude.{◌≡◌, ◌<◌, ◌≤◌, ℕ, Contains, false, length, slice_index_or, OnOk};
 ghost use Rattle.std.specs.List.Sorted.{IsNonDecreasingBy};
 ghost use Rattle.pair_compare.specs.Conflict.{AddsPairs, IsRunConflict, OneHas};
-ghost use Rattle.pair_compare.specs.Sweeps.{AddsHulls, AreOfKind, DropsEnded, IsActivePair, IsHullOf, IsHullPair, IsMetPair, IsReachedPair, Settles};
+ghost use Rattle.pair_compare.specs.Sweeps.{AddsHulls, AreOfKind, DropsEnded, IsActivePair, IsHullOf, IsHullPair, IsMetPair, IsReachedPair, DropsOnlyEnded};
 ghost use Rattle.pair_compare.specs.declared.hull.Hull.{Hull};
 
 use crate::active::Active;
@@ -88,7 +88,7 @@ fn meet_block<'r>(
 ) -> Result<(), Memory>
     requires kinds { AreOfKind active.old }
     requires rising { IsNonDecreasingBy (λ hull. hull.low) block.now }
-    ensures active { OnOk result (Settles block.now active.old active.new) }
+    ensures active { OnOk result (DropsOnlyEnded block.now active.old active.new) }
     ensures added { OnOk result (AddsPairs pairs.old.keys pairs.new.keys (OneHas (λ hull. IsReachedPair from hull active.old) block.now)) }
 {
     for hull in block {

@@ -1,7 +1,7 @@
 ghost use Rattle.std.specs.Prelude.{◌≡◌, ◌↔◌, ◌≤◌, ℕ, All, false, true, OnOk, IfOk};
 ghost use Rattle.pair_compare.specs.Conflict.{GrowsBy, OneHas};
 ghost use Rattle.pair_compare.specs.Groups.{IsGroupPair, IsPartedPair, IsRunOf};
-ghost use Rattle.pair_compare.specs.Work.{IsPairAt, OnlyReads, IsTaskPair};
+ghost use Rattle.pair_compare.specs.Work.{IsPairAt, NeverWrites, IsTaskPair};
 
 use crate::crowding::singly;
 use crate::group::Group;
@@ -32,7 +32,7 @@ pub struct Task<'g, 's> {
 
 // Whether a run of the member may write and reach over one of the bytes.
 fn may_write(member: &Member, low: u64, high: u64) -> bool
-    ensures { result ≡ false → OnlyReads low high member.now }
+    ensures { result ≡ false → NeverWrites low high member.now }
 {
     if !member.writes {
         return false;
@@ -42,7 +42,7 @@ fn may_write(member: &Member, low: u64, high: u64) -> bool
 
 // Whether nobody writes there, so that nothing conflicts.
 fn is_idle(members: &[Member], low: u64, high: u64) -> bool
-    ensures { result ≡ true → All (OnlyReads low high) members.now }
+    ensures { result ≡ true → All (NeverWrites low high) members.now }
 {
     for member in members {
         if may_write(member, low, high) {

@@ -1,3 +1,4 @@
 pub mod TraceLogs
 pub mod Labels
 pub mod Held
+pub mod Counted

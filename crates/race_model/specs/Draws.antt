@@ -3,7 +3,7 @@ use Rattle.std.specs.Prelude.{◌≡◌, ℕ, ◌<◌, ◌≤◌, ◌==◌, if�
 use Rattle.std.specs.List.{flat_map}
 use Rattle.log_format.specs.declared.record.Record.{Record}
 use Rattle.log_format.specs.declared.record.Kind.{Kind}
-use Rattle.log_format.specs.declared.record.Kind.TheVariants.{Read, Write, Lock, Unlock, Barrier, Region, Chunk, End, Update}
+use Rattle.log_format.specs.declared.record.Kind.TheVariants.{Chunk}
 
 -- a number before the numbers of a first loop
 abbrev pub in_first_loop : ℕ → List (List ℕ) → List (List ℕ)
@@ -14,14 +14,7 @@ in_first_loop number (loop ∷ loops) = (number ∷ loop) ∷ loops
 -- and else it is a draw
 abbrev pub with_draw : Kind → Record → List (List ℕ) → List (List ℕ)
 with_draw Chunk r loops = if r.addr == r.value then [] ∷ loops else in_first_loop r.addr loops
-with_draw Read r loops = loops
-with_draw Write r loops = loops
-with_draw Lock r loops = loops
-with_draw Unlock r loops = loops
-with_draw Barrier r loops = loops
-with_draw Region r loops = loops
-with_draw End r loops = loops
-with_draw Update r loops = loops
+with_draw _ r loops = loops
 
 -- the numbers that a log draws, parted where a loop closes
 abbrev pub draws_by_loop : List Record → List (List ℕ)
@@ -34,14 +27,7 @@ loop_draws loop records = get_or (draws_by_loop records) loop []
 
 abbrev pub with_closing : Kind → Record → List ℕ → List ℕ
 with_closing Chunk r counts = if r.addr == r.value then r.value ∷ counts else counts
-with_closing Read r counts = counts
-with_closing Write r counts = counts
-with_closing Lock r counts = counts
-with_closing Unlock r counts = counts
-with_closing Barrier r counts = counts
-with_closing Region r counts = counts
-with_closing End r counts = counts
-with_closing Update r counts = counts
+with_closing _ r counts = counts
 
 -- how many chunks each loop has that the log closes, in order
 abbrev pub closed_loops : List Record → List ℕ

@@ -4,7 +4,7 @@ use Rattle.std.specs.Prelude.{◌≡◌, ◌⊎◌, ℕ, ◌+◌, ◌<◌, ◌==
 use Rattle.sw_base.specs.declared.path.Step.{Step}
 use Rattle.log_format.specs.declared.record.Record.{Record}
 use Rattle.log_format.specs.declared.record.Kind.{Kind}
-use Rattle.log_format.specs.declared.record.Kind.TheVariants.{Read, Write, Lock, Unlock, Barrier, Region, Chunk, End, Update}
+use Rattle.log_format.specs.declared.record.Kind.TheVariants.{Read, Write, Lock, Unlock, Update}
 use Rattle.log_format.specs.Fitting.{fit}
 use Rattle.race_model.specs.Trace.{Logs, Node, path_eq}
 use Rattle.race_model.specs.Order.{HappensBefore}
@@ -19,13 +19,10 @@ pub record Entry : Type 0 where
 abbrev pub entry_of : Kind → Entry → List Entry
 entry_of Read e = e ∷ []
 entry_of Write e = e ∷ []
+entry_of Update e = e ∷ []
 entry_of Lock e = e ∷ []
 entry_of Unlock e = e ∷ []
-entry_of Barrier e = []
-entry_of Region e = []
-entry_of Chunk e = []
-entry_of End e = []
-entry_of Update e = e ∷ []
+entry_of _ e = []
 
 -- what a history has of a log, from the log's record i on
 abbrev pub entries_from : List Step → ℕ → List Record → List Entry
@@ -39,14 +36,8 @@ task_entries path history = filter (λ (e : Entry). path_eq e.node.path path) hi
 -- the value at the address after a record of this kind: what a write stores, and of an update the sum, cut to its bytes
 abbrev pub stored_after : Kind → Record → ℕ → ℕ → ℕ
 stored_after Write r addr value = if r.addr == addr then r.value else value
-stored_after Read r addr value = value
-stored_after Lock r addr value = value
-stored_after Unlock r addr value = value
-stored_after Barrier r addr value = value
-stored_after Region r addr value = value
-stored_after Chunk r addr value = value
-stored_after End r addr value = value
 stored_after Update r addr value = if r.addr == addr then fit (value + r.value) r.size else value
+stored_after _ r addr value = value
 
 abbrev pub stored_from : ℕ → List Entry → ℕ → ℕ
 stored_from addr [] value = value
@@ -60,13 +51,7 @@ stored_value addr history = stored_from addr history 0
 abbrev pub owner_after : Kind → Record → List Step → ℕ → Option (List Step) → Option (List Step)
 owner_after Lock r path mutex owner = if r.addr == mutex then Some path else owner
 owner_after Unlock r path mutex owner = if r.addr == mutex then None else owner
-owner_after Read r path mutex owner = owner
-owner_after Write r path mutex owner = owner
-owner_after Barrier r path mutex owner = owner
-owner_after Region r path mutex owner = owner
-owner_after Chunk r path mutex owner = owner
-owner_after End r path mutex owner = owner
-owner_after Update r path mutex owner = owner
+owner_after _ r path mutex owner = owner
 
 abbrev pub owner_from : ℕ → List Entry → Option (List Step) → Option (List Step)
 owner_from mutex [] owner = owner
@@ -82,12 +67,7 @@ abbrev pub FitsKind : Kind → List Entry → Record → List Step → Type 0
 FitsKind Read before r path = r.value ≡ stored_value r.addr before
 FitsKind Lock before r path = mutex_owner r.addr before ≡ None
 FitsKind Unlock before r path = mutex_owner r.addr before ≡ Some path
-FitsKind Write before r path = Unit {0}
-FitsKind Barrier before r path = Unit {0}
-FitsKind Region before r path = Unit {0}
-FitsKind Chunk before r path = Unit {0}
-FitsKind End before r path = Unit {0}
-FitsKind Update before r path = Unit {0}
+FitsKind _ before r path = Unit {0}
 
 abbrev pub IsLegalAfter : List Entry → List Entry → Type 0
 IsLegalAfter before [] = Unit {0}

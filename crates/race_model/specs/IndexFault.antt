@@ -28,17 +28,13 @@ pub record HasDepth (row : RawRow) : Type 0 where
   pub reserved : row.reserved ≡ 0
   pub unused : All (λ step. step ≡ no_step) (unused row)
 
--- how many records a log has at most, and how many rows an index
-abbrev pub max_records : ℕ
-max_records = record_limit
-
 abbrev pub max_rows : ℕ
 max_rows = 65536
 
 -- a log has a record at least
 pub record HasRecords (records : ℕ) : Type 0 where
   pub some : 1 ≤ records
-  pub limit : records ≤ max_records
+  pub limit : records ≤ record_limit
 
 -- a row after others passes the test that the fault names
 abbrev pub RowPasses : List RawRow → RawRow → IndexWhy → Type 0

@@ -7,7 +7,7 @@ use Rattle.std.specs.Ordering.{nat_cmp, ordering_then}
 use Rattle.std.specs.List.Sorted.{IsStrictlySortedBy}
 use Rattle.log_format.specs.declared.record.Record.{Record}
 use Rattle.log_format.specs.declared.record.Kind.{Kind}
-use Rattle.log_format.specs.declared.record.Kind.TheVariants.{Read, Write, Lock, Unlock, Barrier, Region, Chunk, End, Update}
+use Rattle.log_format.specs.declared.record.Kind.TheVariants.{Read, Write, Lock, Unlock, Update}
 use Rattle.race_model.specs.Trace.{Logs, Node, record_at}
 use Rattle.race_model.specs.Order.{HappensBefore}
 
@@ -32,13 +32,7 @@ SharesByte r s = (byte : ℕ) × HasByte r byte × HasByte s byte
 abbrev pub held_after_kind : Kind → ℕ → List ℕ → List ℕ
 held_after_kind Lock m held = held ++ m ∷ []
 held_after_kind Unlock m held = filter (λ other. not (other == m)) held
-held_after_kind Read m held = held
-held_after_kind Write m held = held
-held_after_kind Barrier m held = held
-held_after_kind Region m held = held
-held_after_kind Chunk m held = held
-held_after_kind End m held = held
-held_after_kind Update m held = held
+held_after_kind _ m held = held
 
 abbrev pub held_after : List ℕ → List Record → List ℕ
 held_after held [] = held

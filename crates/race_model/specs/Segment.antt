@@ -4,7 +4,7 @@ use Rattle.std.specs.List.{list_any}
 use Rattle.sw_base.specs.declared.path.Step.{Step}
 use Rattle.log_format.specs.declared.record.Record.{Record}
 use Rattle.log_format.specs.declared.record.Kind.{Kind}
-use Rattle.log_format.specs.declared.record.Kind.TheVariants.{Read, Write, Lock, Unlock, Barrier, Region, Chunk, End, Update}
+use Rattle.log_format.specs.declared.record.Kind.TheVariants.{Read, Write, Barrier, Region, Update}
 use Rattle.race_model.specs.Trace.{TaskLog, Trace}
 use Rattle.race_model.specs.Race.{held_after_kind}
 
@@ -25,13 +25,8 @@ events records = events_from 1 [] records
 abbrev pub is_access : Kind → Bool
 is_access Read = true
 is_access Write = true
-is_access Lock = false
-is_access Unlock = false
-is_access Barrier = false
-is_access Region = false
-is_access Chunk = false
-is_access End = false
 is_access Update = true
+is_access _ = false
 
 -- puts an event at the start of the first run
 abbrev pub in_first : Event → List (List Event) → List (List Event)
@@ -42,13 +37,7 @@ in_first e (run ∷ runs) = (e ∷ run) ∷ runs
 abbrev pub with_event : Kind → Event → List (List Event) → List (List Event)
 with_event Region e runs = [] ∷ runs
 with_event Barrier e runs = [] ∷ runs
-with_event Read e runs = in_first e runs
-with_event Write e runs = in_first e runs
-with_event Lock e runs = in_first e runs
-with_event Unlock e runs = in_first e runs
-with_event Chunk e runs = in_first e runs
-with_event End e runs = in_first e runs
-with_event Update e runs = in_first e runs
+with_event _ e runs = in_first e runs
 
 -- the events, parted at each Region and Barrier
 abbrev pub runs_of : List Event → List (List Event)

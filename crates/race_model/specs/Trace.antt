@@ -4,7 +4,7 @@ use lib.Pointwise.{pointwise}
 use Rattle.sw_base.specs.declared.path.Step.{Step}
 use Rattle.log_format.specs.declared.record.Record.{Record}
 use Rattle.log_format.specs.declared.record.Kind.{Kind}
-use Rattle.log_format.specs.declared.record.Kind.TheVariants.{Read, Write, Lock, Unlock, Barrier, Region, Chunk, End, Update}
+use Rattle.log_format.specs.declared.record.Kind.TheVariants.{Barrier, Region}
 
 -- the records of one task
 pub record TaskLog : Type 0 where
@@ -48,25 +48,11 @@ pub record HasKind (logs : Logs) (x : Node) (kind : Kind) : Type 0 where
 
 abbrev pub is_region_kind : Kind → Bool
 is_region_kind Region = true
-is_region_kind Read = false
-is_region_kind Write = false
-is_region_kind Lock = false
-is_region_kind Unlock = false
-is_region_kind Barrier = false
-is_region_kind Chunk = false
-is_region_kind End = false
-is_region_kind Update = false
+is_region_kind _ = false
 
 abbrev pub is_barrier_kind : Kind → Bool
 is_barrier_kind Barrier = true
-is_barrier_kind Read = false
-is_barrier_kind Write = false
-is_barrier_kind Lock = false
-is_barrier_kind Unlock = false
-is_barrier_kind Region = false
-is_barrier_kind Chunk = false
-is_barrier_kind End = false
-is_barrier_kind Update = false
+is_barrier_kind _ = false
 
 abbrev pub region_count : List Record → ℕ
 region_count records = count_by (λ r. is_region_kind r.kind) records

@@ -12,7 +12,7 @@ use Rattle.event_buffer.specs.Logged.{HoldsRecords, HasAll, KeepsPrefix}
 use Rattle.history_model.specs.Work.{Work}
 use Rattle.execution_model.specs.Runs.{works_log}
 use Rattle.lane_runner.specs.Going.{Progress}
-use Rattle.lane_runner.specs.Handed.{Entry}
+use Rattle.lane_runner.specs.Handed.{HandedEntry}
 use Rattle.region_runner.specs.Closing.{IsClosedAs}
 use Rattle.region_runner.specs.Ran.{in_one, HasLogged}
 use Rattle.region_runner.proofs.Traced.{one_log}
@@ -22,7 +22,7 @@ pub holds_works : (old new : Progress) (works : List Work) (header : List ℕ) �
 holds_works old new works header l empty = subst (λ (rs : List Record). HoldsRecords header new.buffer rs) (one_log works) (l.log.records header [] empty)
 
 -- a buffer that is closed took all that waited
-pub closed_ok : (e : Entry) (path : List Step) (b held : Buffered) → held ≡ b → e.task ≡ path → (e.dir ≡ held.dir) × (e.path ≡ held.path) → is_some e.text ≡ is_some held.text → e.count ≡ held.count
+pub closed_ok : (e : HandedEntry) (path : List Step) (b held : Buffered) → held ≡ b → e.task ≡ path → (e.dir ≡ held.dir) × (e.path ≡ held.path) → is_some e.text ≡ is_some held.text → e.count ≡ held.count
     → ((header : List ℕ) (records : List Record) → HoldsRecords header held records → WhereTold e.text (HasAll header records held.size)) → ((trouble : Trouble) → held.refused ≡ Some trouble → ⊥) → e.faults ≡ 0 → IsClosedAs e None path b
 closed_ok e path b held is task places tells count taken again faultless =
     subst (λ (x : Buffered). IsClosedAs e None path x) is
@@ -32,7 +32,7 @@ closed_ok e path b held is task places tells count taken again faultless =
     no_trouble told = absurd cc
 
 -- it didn't
-pub closed_err : (e : Entry) (path : List Step) (b held : Buffered) (trouble : Trouble) → held ≡ b → e.task ≡ path → (e.dir ≡ held.dir) × (e.path ≡ held.path) → is_some e.text ≡ is_some held.text → e.count ≡ held.count
+pub closed_err : (e : HandedEntry) (path : List Step) (b held : Buffered) (trouble : Trouble) → held ≡ b → e.task ≡ path → (e.dir ≡ held.dir) × (e.path ≡ held.path) → is_some e.text ≡ is_some held.text → e.count ≡ held.count
     → ((header : List ℕ) (records : List Record) → HoldsRecords header held records → WhereTold e.text (KeepsPrefix header records held.size)) → CountsFault trouble e.faults → ((other : Trouble) → held.refused ≡ Some other → trouble ≡ other)
     → IsClosedAs e (Some trouble) path b
 closed_err e path b held trouble is task places tells count taken fault again =

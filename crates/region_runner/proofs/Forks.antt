@@ -16,7 +16,7 @@ use Rattle.shared_words.specs.declared.view.View.{View}
 use Rattle.shared_words.specs.Handles.{HandValue}
 use Rattle.task_place.specs.declared.locals.Locals.{Locals}
 use Rattle.lane_runner.specs.Forking.{Answer}
-use Rattle.lane_runner.specs.Teams.{EachTeamIn, MayFork}
+use Rattle.lane_runner.specs.Teams.{EachTeamIn, MayForkTeam}
 use Rattle.lane_runner.specs.World.{WorldValue}
 use Rattle.lane_runner.proofs.Teams.{teams_all}
 use Rattle.region_runner.specs.Lawful.{IsInnerTeam, IsLawfulPhase}
@@ -30,8 +30,8 @@ item_forks P Q each (item.Bar line) h = tt
 -- who runs each inner team, runs those of a lawful phase
 pub phase_forks : {T : Type 0} (w w' : WorldValue) (accepts : MutBor (HandValue View) → Bor Locals → ℕ → Vec T → Bor Team → MutBor (Vec (ClosedLog T)) → Type 0)
     (gives : MutBor (HandValue View) → Bor Locals → ℕ → Vec T → Bor Team → MutBor (Vec (ClosedLog T)) → Answer → MutBor (HandValue View) → MutBor (Vec (ClosedLog T)) → Type 0)
-    (seen : Ghosts T) (task : Buffered) (mutexes regions : ℕ) (items : List Item) → w' ≡ w → IsLawfulPhase mutexes regions items → ((team : TeamTree) → IsInnerTeam mutexes regions team → MayFork w accepts gives seen task team)
-    → All (EachTeamIn (MayFork w' accepts gives seen task)) items
+    (seen : Ghosts T) (task : Buffered) (mutexes regions : ℕ) (items : List Item) → w' ≡ w → IsLawfulPhase mutexes regions items → ((team : TeamTree) → IsInnerTeam mutexes regions team → MayForkTeam w accepts gives seen task team)
+    → All (EachTeamIn (MayForkTeam w' accepts gives seen task)) items
 phase_forks w w' accepts gives seen task mutexes regions items is lawful each =
-    subst (λ (x : WorldValue). All (EachTeamIn (MayFork x accepts gives seen task)) items) (sym is)
-    (all_map (EachTeamIn (IsInnerTeam mutexes regions)) (EachTeamIn (MayFork w accepts gives seen task)) (item_forks (IsInnerTeam mutexes regions) (MayFork w accepts gives seen task) each) items lawful.teams)
+    subst (λ (x : WorldValue). All (EachTeamIn (MayForkTeam x accepts gives seen task)) items) (sym is)
+    (all_map (EachTeamIn (IsInnerTeam mutexes regions)) (EachTeamIn (MayForkTeam w accepts gives seen task)) (item_forks (IsInnerTeam mutexes regions) (MayForkTeam w accepts gives seen task) each) items lawful.teams)

@@ -5,6 +5,7 @@ use Rattle.std.specs.List.{flat_map}
 use Rattle.std.specs.Option.{option_map}
 use Rattle.std.proofs.lemmas.Option.{same_Some}
 use Rattle.std.proofs.lemmas.List.{append-nil}
+use Rattle.log_format.specs.Limit.{task_limit}
 use Rattle.sw_base.specs.declared.path.Step.{Step}
 use Rattle.sw_base.specs.declared.trouble.Trouble.{Trouble}
 use Rattle.sw_base.specs.declared.trouble.Trouble.TheVariants.{Failed, Memory}
@@ -16,17 +17,18 @@ use Rattle.event_buffer.specs.Logged.{HoldsRecords, KeepsPrefix}
 use Rattle.kernel_model.specs.State.{State, Fork, Outcome}
 use Rattle.history_model.specs.Work.{Work, RegionWork, work_regions}
 use Rattle.execution_model.specs.Runs.{works_log}
+use Rattle.lane_runner.specs.declared.stop.Stop.TheVariants as stop
 use Rattle.lane_runner.specs.declared.stop.Halt.{Halt}
 use Rattle.lane_runner.specs.declared.stop.Halt.TheVariants as halt
 use Rattle.lane_runner.specs.declared.stop.Stop.{Stop}
 use Rattle.lane_runner.specs.Going.{Progress, WorkHandsOn}
 use Rattle.lane_runner.specs.Stopping.{StopsAtLast}
-use Rattle.lane_runner.specs.Handed.{Entry, HandsOn, LogPlace, place_of, task_limit}
+use Rattle.lane_runner.specs.Handed.{HandedEntry, HandsOn, LogPlace, log_place}
 use Rattle.lane_runner.proofs.Handing.{hand_none}
 use Rattle.region_runner.specs.Closing.{HasTaken, IsClosedAs}
 use Rattle.region_runner.specs.Crew.{CrewValue, world_of}
 use Rattle.region_runner.specs.Gathering.{ClosedValue, LaneGave, region_stop}
-use Rattle.lane_runner.specs.Lane.{answer_of}
+use Rattle.lane_runner.specs.Lane.{answer_due}
 use Rattle.region_runner.specs.Ran.{in_one, HasLogged, TaskGoes}
 use Rattle.region_runner.proofs.ClosedLogs.{holds_works}
 use Rattle.region_runner.proofs.Traced.{one_regions}
@@ -35,12 +37,12 @@ use Rattle.region_runner.proofs.Traced.{one_regions}
 
 module _ (crew : CrewValue) (lane : ℕ) (part : State → Outcome (Unit {0})) (slots slots' : List ℤ) (old new : Progress) (works : List Work) (place : LogPlace) (c : ClosedValue)
     (closed : IsClosedAs c.own c.refused c.path new.buffer) (below : c.below ≡ new.done) (none : old.done ≡ []) (empty : HoldsRecords (log_header FORMAT) old.buffer [])
-    (first : old.tally.forked ≡ 0) (own : old.buffer.path ≡ c.path) (is : place_of old.buffer ≡ place) where
+    (first : old.tally.forked ≡ 0) (own : old.buffer.path ≡ c.path) (is : log_place old.buffer ≡ place) where
   handed : (h : Option Halt) → c.halt ≡ h → WorkHandsOn (region_stop h) old new (in_one works) → HandsOn place (region_stop c.halt) c.path 0 (flat_map work_regions works) [] c.below
   handed h h_is hands =
       subst (λ (h' : Option Halt). HandsOn place (region_stop h') c.path 0 (flat_map work_regions works) [] c.below) (sym h_is)
-      (subst (λ (es : List Entry). HandsOn place (region_stop h) c.path 0 (flat_map work_regions works) [] es) (sym below)
-      (subst (λ (es : List Entry). HandsOn place (region_stop h) c.path 0 (flat_map work_regions works) es new.done) none
+      (subst (λ (es : List HandedEntry). HandsOn place (region_stop h) c.path 0 (flat_map work_regions works) [] es) (sym below)
+      (subst (λ (es : List HandedEntry). HandsOn place (region_stop h) c.path 0 (flat_map work_regions works) es new.done) none
       (subst (λ (rs : List RegionWork). HandsOn place (region_stop h) c.path 0 rs old.done new.done) (one_regions works)
       (subst (λ (n : ℕ). HandsOn place (region_stop h) c.path n (work_regions (in_one works)) old.done new.done) first
       (subst (λ (p : List Step). HandsOn place (region_stop h) p old.tally.forked (work_regions (in_one works)) old.done new.done) own
@@ -48,7 +50,7 @@ module _ (crew : CrewValue) (lane : ℕ) (part : State → Outcome (Unit {0})) (
 
   -- by its log, by what it handed on, and by why it doesn't go on
   given : (h : Option Halt) → c.halt ≡ h → HasLogged old new (in_one works) → WorkHandsOn (region_stop h) old new (in_one works)
-      → ((trouble : Trouble) → h ≡ Some (halt.Trouble trouble) → trouble ≢ Memory → c.refused ≡ Some trouble) → ((line : ℕ) → h ≡ Some (halt.Tasks line) → task_limit < length c.below)
+      → ((trouble : Trouble) → h ≡ Some (halt.Own (stop.Trouble trouble)) → trouble ≢ Memory → c.refused ≡ Some trouble) → ((line : ℕ) → h ≡ Some (halt.Own (stop.Tasks line)) → task_limit < length c.below)
       → ((path : List Step) (why : Stop) → h ≡ Some (halt.Region path why) → IsUnder path c.path) → LaneGave place works c
   given h h_is logged hands refusal crowded under = record {
     task = closed.task;
@@ -67,7 +69,7 @@ module _ (crew : CrewValue) (lane : ℕ) (part : State → Outcome (Unit {0})) (
     under = λ path why told. under path why (sym h_is ∙ told);
   }
     where
-      place_is : place_of new.buffer ≡ place
+      place_is : log_place new.buffer ≡ place
       place_is = logged.log.place ∙ is
 
       holds : HoldsRecords (log_header FORMAT) new.buffer (works_log works)
@@ -76,7 +78,7 @@ module _ (crew : CrewValue) (lane : ℕ) (part : State → Outcome (Unit {0})) (
   path_of : (path path' : List Step) (why why' : Stop) → Some (halt.Region path why) ≡ Some (halt.Region path' why') → path ≡ path'
   path_of path path' why why' told = cc
 
-  trouble_of : (trouble other : Trouble) → Some (halt.Trouble trouble) ≡ Some (halt.Trouble other) → trouble ≡ other
+  trouble_of : (trouble other : Trouble) → Some (halt.Own (stop.Trouble trouble)) ≡ Some (halt.Own (stop.Trouble other)) → trouble ≡ other
   trouble_of trouble other told = cc
 
   -- a task of its last region stopped
@@ -86,21 +88,21 @@ module _ (crew : CrewValue) (lane : ℕ) (part : State → Outcome (Unit {0})) (
       let step : Step = record { region = old.tally.forked + length s.before; lane = inside.lane; span = s.fork.team.span } in
       record { first = step; rest = inside.below; parts = inside.path_is ∙ ap (λ (p : List Step). p ++ step ∷ inside.below) own }
 
-  by : (h : Option Halt) → c.halt ≡ h → TaskGoes (world_of crew lane) part slots slots' old new works (answer_of h) → LaneGave place works c
+  by : (h : Option Halt) → c.halt ≡ h → TaskGoes (world_of crew lane) part slots slots' old new works (answer_due h) → LaneGave place works c
   by (Some (halt.Region path why)) h_is t =
       given (Some (halt.Region path why)) h_is t.logged t.handed (λ trouble told other. absurd cc) (λ l told. absurd cc)
       (λ path' why' told. subst (λ (p : List Step). IsUnder p c.path) (path_of path path' why why' told) (is_under path why t.forks (work_regions (in_one works)) t.stops.0))
-  by (Some (halt.Tasks line)) h_is t =
-      given (Some (halt.Tasks line)) h_is t.logged t.handed (λ trouble told other. absurd cc)
-      (λ l told. subst (λ (es : List Entry). task_limit < length es) (sym below) t.stops.1) (λ path why told. absurd cc)
-  by (Some (halt.Trouble trouble)) h_is t =
-      given (Some (halt.Trouble trouble)) h_is t.0.logged t.0.handed
+  by (Some (halt.Own (stop.Tasks line))) h_is t =
+      given (Some (halt.Own (stop.Tasks line))) h_is t.logged t.handed (λ trouble told other. absurd cc)
+      (λ l told. subst (λ (es : List HandedEntry). task_limit < length es) (sym below) t.stops.1) (λ path why told. absurd cc)
+  by (Some (halt.Own (stop.Trouble trouble))) h_is t =
+      given (Some (halt.Own (stop.Trouble trouble))) h_is t.0.logged t.0.handed
       (λ other told some. closed.again other
       (subst (λ (x : Trouble). new.buffer.refused ≡ Some x) (trouble_of trouble other told) (t.1.refused (λ memory. some (sym (trouble_of trouble other told) ∙ memory)))))
       (λ l told. absurd cc) (λ path why told. absurd cc)
   by h h_is t = given h h_is t.logged t.handed (λ trouble told other. absurd cc) (λ line told. absurd cc) (λ path why told. absurd cc)
 
-  pub lane_gave : TaskGoes (world_of crew lane) part slots slots' old new works (answer_of c.halt) → LaneGave place works c
+  pub lane_gave : TaskGoes (world_of crew lane) part slots slots' old new works (answer_due c.halt) → LaneGave place works c
   lane_gave t = by c.halt refl t
 
 -- ---- a lane whose log couldn't be started
@@ -125,9 +127,9 @@ gave_nothing place c old_text trouble task dir own_path tells empty torn count b
   faultless = λ told. absurd (refuses (sym told ∙ refused));
   hands =
       subst (λ (h : Option Halt). HandsOn place (region_stop h) c.path 0 [] [] c.below) (sym halt_is)
-      (subst (λ (es : List Entry). HandsOn place None c.path 0 [] [] es) (sym below) (hand_none place c.path 0 []));
-  refusal = λ t told other. absurd (goes (halt.Trouble t) told);
-  crowded = λ line told. absurd (goes (halt.Tasks line) told);
+      (subst (λ (es : List HandedEntry). HandsOn place None c.path 0 [] [] es) (sym below) (hand_none place c.path 0 []));
+  refusal = λ t told other. absurd (goes (halt.Own (stop.Trouble t)) told);
+  crowded = λ line told. absurd (goes (halt.Own (stop.Tasks line)) told);
   under = λ path why told. absurd (goes (halt.Region path why) told);
 }
   where

@@ -6,13 +6,14 @@ use Rattle.std.proofs.lemmas.List.Elements.{All-head, All-tail}
 use Rattle.log_format.specs.declared.record.Record.{Record}
 use Rattle.log_format.specs.declared.record.Kind.TheVariants.{Region}
 use Rattle.race_model.specs.History.{release}
-use Rattle.kernel_model.specs.State as model
+use Rattle.kernel_model.specs.declared.stop.StopWhy.TheVariants as reason
 use Rattle.kernel_model.specs.State.{State, Fork, Outcome}
 use Rattle.kernel_model.specs.Effect.{Finish, Returned, Halted}
 use Rattle.race_model.specs.Trace.{barrier_count}
 use Rattle.history_model.specs.Work.{Work, Rest, Put, RegionWork, fork_record, logged, work_records, work_regions}
 use Rattle.history_model.specs.Sound.{WordLayout, IsSound}
 use Rattle.history_model.specs.Joined.{IsJoined, PhasesEnd, ArePhasesJoined}
+use Rattle.lane_runner.specs.declared.stop.Stop.TheVariants as stop
 use Rattle.lane_runner.specs.declared.stop.Halt.{Halt}
 use Rattle.lane_runner.specs.declared.stop.Halt.TheVariants as halt
 use Rattle.lane_runner.specs.Stopping.{HaveEnded, LastIsRegion}
@@ -126,27 +127,27 @@ module _ (w : WorldValue) (part : State → Outcome (Unit {0})) (slots slots' : 
   -- by what the phase answers
   abbrev pub work_of : (bars : ℕ) (r : Result (Unit {0}) Halt) → GoesPast bars w part slots slots' old new r → Work
   work_of bars (Ok u) m = m.work
-  work_of bars (Err (halt.DivZero line)) m = m.work
-  work_of bars (Err (halt.Index line)) m = m.work
-  work_of bars (Err (halt.LogFull line)) m = m.work
+  work_of bars (Err (halt.Own (stop.DivZero line))) m = m.work
+  work_of bars (Err (halt.Own (stop.Index line))) m = m.work
+  work_of bars (Err (halt.Own (stop.LogFull line))) m = m.work
   work_of bars (Err (halt.Region path why)) m = m.work
-  work_of bars (Err (halt.Tasks line)) m = m.work
-  work_of bars (Err (halt.Trouble trouble)) (m, refused) = m.work
+  work_of bars (Err (halt.Own (stop.Tasks line))) m = m.work
+  work_of bars (Err (halt.Own (stop.Trouble trouble))) (m, refused) = m.work
 
   pub phase_did_work : (bars : ℕ) (r : Result (Unit {0}) Halt) (m : GoesPast bars w part slots slots' old new r) → DidWork w.arrays old.hand new.hand (work_of bars r m)
   phase_did_work bars (Ok u) m = made_did bars (Returned tt) m
-  phase_did_work bars (Err (halt.DivZero line)) m = made_did 0 (Halted model.DivZero line) m
-  phase_did_work bars (Err (halt.Index line)) m = made_did 0 (Halted model.Index line) m
-  phase_did_work bars (Err (halt.LogFull line)) m = made_did 0 (Halted model.LogFull line) m
+  phase_did_work bars (Err (halt.Own (stop.DivZero line))) m = made_did 0 (Halted reason.DivZero line) m
+  phase_did_work bars (Err (halt.Own (stop.Index line))) m = made_did 0 (Halted reason.Index line) m
+  phase_did_work bars (Err (halt.Own (stop.LogFull line))) m = made_did 0 (Halted reason.LogFull line) m
   phase_did_work bars (Err (halt.Region path why)) m = began_did (AtRegion path why) m
-  phase_did_work bars (Err (halt.Tasks line)) m = began_did (AtTasks line) m
-  phase_did_work bars (Err (halt.Trouble trouble)) (m, refused) = began_did AtLog m
+  phase_did_work bars (Err (halt.Own (stop.Tasks line))) m = began_did (AtTasks line) m
+  phase_did_work bars (Err (halt.Own (stop.Trouble trouble))) (m, refused) = began_did AtLog m
 
   -- and where it stopped it passed no barrier
   pub phase_short : (bars : ℕ) (why : Halt) (m : GoesPast bars w part slots slots' old new (Err why)) → barrier_count (work_records (work_of bars (Err why) m)) ≡ 0
-  phase_short bars (halt.DivZero line) m = m.done.barriers
-  phase_short bars (halt.Index line) m = m.done.barriers
-  phase_short bars (halt.LogFull line) m = m.done.barriers
+  phase_short bars (halt.Own (stop.DivZero line)) m = m.done.barriers
+  phase_short bars (halt.Own (stop.Index line)) m = m.done.barriers
+  phase_short bars (halt.Own (stop.LogFull line)) m = m.done.barriers
   phase_short bars (halt.Region path why) m = m.done.barriers
-  phase_short bars (halt.Tasks line) m = m.done.barriers
-  phase_short bars (halt.Trouble trouble) (m, refused) = m.done.barriers
+  phase_short bars (halt.Own (stop.Tasks line)) m = m.done.barriers
+  phase_short bars (halt.Own (stop.Trouble trouble)) (m, refused) = m.done.barriers

@@ -18,7 +18,7 @@ use Rattle.lane_runner.specs.declared.stop.Halt.{Halt}
 use Rattle.lane_runner.specs.declared.stop.Halt.TheVariants as halt
 use Rattle.lane_runner.specs.declared.stop.Stop.{Stop}
 use Rattle.lane_runner.specs.declared.stop.Stop.TheVariants as stop
-use Rattle.lane_runner.specs.Handed.{Entry, LogPlace, MaybeStop, IsForMemory, IsTrouble, MayLack, Keeps, IsEntryOf, TaskHands, RegionsHand, HasCrowdedTask, TellStop}
+use Rattle.lane_runner.specs.Handed.{HandedEntry, LogPlace, MaybeStop, IsForMemory, IsTrouble, MayLack, KeepsRecords, IsEntryOf, TaskHands, RegionsHand, HasCrowdedTask, TellStop}
 use Rattle.lane_runner.proofs.HandedTasks.{regions_under}
 use Rattle.lane_runner.proofs.Handing.{regions_weaker, tell_later}
 use Rattle.lane_runner.specs.Lane.{stop_of}
@@ -95,13 +95,13 @@ module _ (c : ClosedValue) (found : WantsMemory (closed_stop c) → ⊥) where
 
 module _ (place : LogPlace) (stop : MaybeStop) (works : List Work) (c : ClosedValue) (gave : LaneGave place works c) where
   below_hand : RegionsHand place (region_stop c.halt) c.path 0 (flat_map work_regions works) c.below
-  below_hand = subst (λ (es : List Entry). RegionsHand place (region_stop c.halt) c.path 0 (flat_map work_regions works) es) (sym gave.hands.grows) gave.hands.hands
+  below_hand = subst (λ (es : List HandedEntry). RegionsHand place (region_stop c.halt) c.path 0 (flat_map work_regions works) es) (sym gave.hands.grows) gave.hands.hands
 
   own_entry : ((trouble : Trouble) → c.refused ≡ Some trouble → MayLack stop c.path c.own.faults) → IsEntryOf place stop c.path (works_log works) c.own
   own_entry lacks = record { task = gave.task; dir = gave.dir; own = gave.own_path; tells = gave.tells; count = gave.count; keeps = λ text told. by c.refused refl text (gave.taken text told); faultless = λ ended. gave.faultless (unrefused ended c.refused refl) } where
-    by : (r : Option Trouble) → c.refused ≡ r → (text : Text) → HasTaken r (log_header FORMAT) (works_log works) place.size text → Keeps stop c.path (works_log works) place.size c.own.faults text
-    by None is text all = Keeps.whole all
-    by (Some trouble) is text prefix = Keeps.torn (lacks trouble is) prefix
+    by : (r : Option Trouble) → c.refused ≡ r → (text : Text) → HasTaken r (log_header FORMAT) (works_log works) place.size text → KeepsRecords stop c.path (works_log works) place.size c.own.faults text
+    by None is text all = KeepsRecords.whole all
+    by (Some trouble) is text prefix = KeepsRecords.torn (lacks trouble is) prefix
 
     unrefused : stop ≡ None → (r : Option Trouble) → c.refused ≡ r → r ≡ None
     unrefused ended None is = refl
@@ -120,12 +120,12 @@ module _ (place : LogPlace) (stop : MaybeStop) (works : List Work) (c : ClosedVa
 -- ---- why a region stopped, told by one of its lanes
 
 -- the logs of one lane among those of all
-pub record IsPart (mine all : List Entry) : Type 0 where
-  pub before : List Entry
-  pub after : List Entry
+pub record IsPart (mine all : List HandedEntry) : Type 0 where
+  pub before : List HandedEntry
+  pub after : List HandedEntry
   pub parts : all ≡ before ++ (mine ++ after)
 
-pub lane_part : (entries : ℕ → List Entry) (first count k : ℕ) → k < count → IsPart (entries (first + k)) (handed_by entries first count)
+pub lane_part : (entries : ℕ → List HandedEntry) (first count k : ℕ) → k < count → IsPart (entries (first + k)) (handed_by entries first count)
 lane_part entries first zero k less = absurd (omega arith)
 lane_part entries first (suc count) zero less = record {
   before = [];
@@ -138,10 +138,10 @@ lane_part entries first (suc count) (suc k) less =
     record {
       before = entries first ++ part.before;
       after = part.after;
-      parts = ap (λ (es : List Entry). entries first ++ es) part.parts ∙ sym (append_assoc (entries first) part.before (entries (first + suc k) ++ part.after));
+      parts = ap (λ (es : List HandedEntry). entries first ++ es) part.parts ∙ sym (append_assoc (entries first) part.before (entries (first + suc k) ++ part.after));
     }
 
-tell_first : (s : MaybeStop) (xs ys : List Entry) → TellStop s xs → TellStop s (xs ++ ys)
+tell_first : (s : MaybeStop) (xs ys : List HandedEntry) → TellStop s xs → TellStop s (xs ++ ys)
 tell_first s xs ys tell = record {
   failed = λ path is. let has = tell.failed path is in record { log = has.log; is = Contains-append_left xs ys has.log has.is; task = has.task; faulty = has.faulty };
   crowded = λ path line is. crowds path (tell.crowded path line is);
@@ -154,20 +154,20 @@ tell_first s xs ys tell = record {
       below = has.below;
       after = has.after ++ ys;
       parts =
-          ap (λ (es : List Entry). es ++ ys) has.parts
+          ap (λ (es : List HandedEntry). es ++ ys) has.parts
           ∙ append_assoc has.before (has.own ∷ (has.below ++ has.after)) ys
-          ∙ ap (λ (es : List Entry). has.before ++ has.own ∷ es) (append_assoc has.below has.after ys);
+          ∙ ap (λ (es : List HandedEntry). has.before ++ has.own ∷ es) (append_assoc has.below has.after ys);
       task = has.task;
       under = has.under;
       many = has.many;
     }
 
-pub tell_part : (s : MaybeStop) (mine all : List Entry) → IsPart mine all → TellStop s mine → TellStop s all
+pub tell_part : (s : MaybeStop) (mine all : List HandedEntry) → IsPart mine all → TellStop s mine → TellStop s all
 tell_part s mine all part tell =
-    subst (λ (es : List Entry). TellStop s es) (sym part.parts) (tell_later s part.before (mine ++ part.after) (tell_first s mine part.after tell))
+    subst (λ (es : List HandedEntry). TellStop s es) (sym part.parts) (tell_later s part.before (mine ++ part.after) (tell_first s mine part.after tell))
 
 -- by nothing that logs tell
-pub tells_none : (path : List Step) (why : Stop) (es : List Entry) → (stop.Trouble Failed ≡ why → ⊥) → ((line : ℕ) → stop.Tasks line ≡ why → ⊥) → TellStop (Some (path, why)) es
+pub tells_none : (path : List Step) (why : Stop) (es : List HandedEntry) → (stop.Trouble Failed ≡ why → ⊥) → ((line : ℕ) → stop.Tasks line ≡ why → ⊥) → TellStop (Some (path, why)) es
 tells_none path why es fault crowd = record { failed = λ p told. absurd (fault (why_of (path, why) p (stop.Trouble Failed) told)); crowded = λ p line told. absurd (crowd line (why_of (path, why) p (stop.Tasks line) told)) }
 
 -- a lane that stopped tells why
@@ -194,7 +194,7 @@ module _ (place : LogPlace) (works : List Work) (c : ClosedValue) (gave : LaneGa
       no_tasks line e = cc
 
   -- by too many tasks below it
-  tells_crowd : (line : ℕ) → c.halt ≡ Some (halt.Tasks line) → path ≡ c.path → why ≡ stop.Tasks line → Told
+  tells_crowd : (line : ℕ) → c.halt ≡ Some (halt.Own (stop.Tasks line)) → path ≡ c.path → why ≡ stop.Tasks line → Told
   tells_crowd line halt_is own is = record {
     failed = λ p told. absurd (no_fault (why_of (path, why) p (stop.Trouble Failed) told ∙ is));
     crowded = λ p l told. record {
@@ -202,10 +202,10 @@ module _ (place : LogPlace) (works : List Work) (c : ClosedValue) (gave : LaneGa
       own = c.own;
       below = c.below;
       after = [];
-      parts = ap (λ (es : List Entry). c.own ∷ es) (sym (append-nil c.below));
+      parts = ap (λ (es : List HandedEntry). c.own ∷ es) (sym (append-nil c.below));
       task = gave.task ∙ sym own ∙ sym (path_of (path, why) p (stop.Tasks l) told);
       under =
-          subst (λ (at : List Step). All (λ (e : Entry). IsUnder e.task at) c.below) (sym own ∙ sym (path_of (path, why) p (stop.Tasks l) told))
+          subst (λ (at : List Step). All (λ (e : HandedEntry). IsUnder e.task at) c.below) (sym own ∙ sym (path_of (path, why) p (stop.Tasks l) told))
           (regions_under place (region_stop c.halt) c.path 0 (flat_map work_regions works) c.below (below_hand place (region_stop c.halt) works c gave));
       many = gave.crowded line halt_is;
     };
@@ -219,12 +219,12 @@ module _ (place : LogPlace) (works : List Work) (c : ClosedValue) (gave : LaneGa
   tells_region is =
       tell_later (Some (path, why)) (c.own ∷ []) c.below
       (subst (λ (h : Option Halt). TellStop (region_stop h) c.below) is
-      (subst (λ (es : List Entry). TellStop (region_stop c.halt) es) (sym gave.hands.grows) gave.hands.tell))
+      (subst (λ (es : List HandedEntry). TellStop (region_stop c.halt) es) (sym gave.hands.grows) gave.hands.tell))
 
   itself_tells : (h : Halt) → c.halt ≡ Some h → c.refused ≡ None → path ≡ c.path → stop_of c.path h ≡ (path, why) → Told
   itself_tells (halt.Region p w) halt_is none own is = tells_region (halt_is ∙ ap (λ (s : List Step × Stop). Some (halt.Region s.0 s.1)) is)
-  itself_tells (halt.Tasks line) halt_is none own is = tells_crowd line halt_is own (sym (ap (λ (s : List Step × Stop). s.1) is))
-  itself_tells (halt.Trouble Failed) halt_is none own is = absurd (refuses (sym none ∙ gave.refusal Failed halt_is (λ e. cc))) where
+  itself_tells (halt.Own (stop.Tasks line)) halt_is none own is = tells_crowd line halt_is own (sym (ap (λ (s : List Step × Stop). s.1) is))
+  itself_tells (halt.Own (stop.Trouble Failed)) halt_is none own is = absurd (refuses (sym none ∙ gave.refusal Failed halt_is (λ e. cc))) where
     refuses : None ≡ Some Failed → ⊥
     refuses e = cc
   itself_tells h halt_is none own is = subst (λ (w : Stop). TellStop (Some (path, w)) (c.own ∷ c.below)) (ap (λ (s : List Step × Stop). s.1) is) (tells_none path (stop_of c.path h).1 (c.own ∷ c.below) (λ e. cc) (λ l e. cc))

@@ -12,12 +12,13 @@ use Rattle.shared_words.specs.declared.view.View.{View}
 use Rattle.shared_words.specs.Handles.{HandValue, WordsValue}
 use Rattle.history_model.specs.Work.{Rest, Put, work_records, then_work}
 use Rattle.history_model.proofs.Parts.{then_records}
+use Rattle.lane_runner.specs.declared.stop.Stop.TheVariants as stop
 use Rattle.lane_runner.specs.declared.stop.Halt.{Halt}
 use Rattle.lane_runner.specs.declared.stop.Halt.TheVariants as halt
 use Rattle.lane_runner.specs.Drawing.{Tally}
 use Rattle.lane_runner.specs.Forking.{IsReady}
-use Rattle.lane_runner.specs.Going.{Progress, CanGo, GoesPast, MadePast, Takes, TakesOrHalts, site}
-use Rattle.lane_runner.specs.Lane.{Executed, LaneValue, PutsEnd, answer_of, halt_in, progress}
+use Rattle.lane_runner.specs.Going.{Progress, CanGo, GoesPast, MadePast, PutsRecord, TakesOrHalts, site}
+use Rattle.lane_runner.specs.Lane.{Executed, LaneValue, PutsEnd, answer_due, halt_in, progress}
 use Rattle.lane_runner.specs.World.{WorldValue}
 use Rattle.lane_runner.proofs.Bodies.{log_later}
 use Rattle.lane_runner.proofs.Halting.{halt_none, stopped_none}
@@ -69,12 +70,12 @@ module _ (w : WorldValue) (items : List Item) (slots slots' : List ℤ) (old mid
 -- who put its End, or had no place for it, may split off hands as before
 still_ready : (line : ℕ) (words : WordsValue) (old new : Progress) (r : Result (Unit {0}) Halt) → TakesOrHalts (event kind.End line 0 0) old.hand.view old new r → IsReady old.hand words → IsReady new.hand words
 still_ready line words old new (Ok u) takes ready = subst (λ (h : HandValue View). IsReady h words) (hand_still old.hand ready.free.belongs.there ∙ sym takes.hand) ready
-still_ready line words old new (Err (halt.DivZero at)) takes ready = absurd takes
-still_ready line words old new (Err (halt.Index at)) takes ready = absurd takes
-still_ready line words old new (Err (halt.LogFull at)) takes ready = subst (λ (p : Progress). IsReady p.hand words) (sym takes.2) ready
+still_ready line words old new (Err (halt.Own (stop.DivZero at))) takes ready = absurd takes
+still_ready line words old new (Err (halt.Own (stop.Index at))) takes ready = absurd takes
+still_ready line words old new (Err (halt.Own (stop.LogFull at))) takes ready = subst (λ (p : Progress). IsReady p.hand words) (sym takes.2) ready
 still_ready line words old new (Err (halt.Region path why)) takes ready = absurd takes
-still_ready line words old new (Err (halt.Tasks at)) takes ready = absurd takes
-still_ready line words old new (Err (halt.Trouble trouble)) takes ready = subst (λ (h : HandValue View). IsReady h words) (sym takes.0.hand) ready
+still_ready line words old new (Err (halt.Own (stop.Tasks at))) takes ready = absurd takes
+still_ready line words old new (Err (halt.Own (stop.Trouble trouble))) takes ready = subst (λ (h : HandValue View). IsReady h words) (sym takes.0.hand) ready
 
 -- ---- a lane in a phase
 
@@ -106,8 +107,8 @@ module _ (w : WorldValue) (items : List Item) (old mid : LaneValue) (ran : Execu
     can = ran.can;
   }
     where
-      by : (h : Option Halt) → h ≢ None → GoesPast (bar_count (map part_of items)) w (run_parts (site w) (map part_of items)) old.locals mid.locals (progress old) (progress mid) (answer_of h)
-          → GoesPast (bar_count (map part_of items)) w (phase_part items (Some line) (site w)) old.locals mid.locals (progress old) (progress mid) (answer_of h)
+      by : (h : Option Halt) → h ≢ None → GoesPast (bar_count (map part_of items)) w (run_parts (site w) (map part_of items)) old.locals mid.locals (progress old) (progress mid) (answer_due h)
+          → GoesPast (bar_count (map part_of items)) w (phase_part items (Some line) (site w)) old.locals mid.locals (progress old) (progress mid) (answer_due h)
       by None some goes = absurd (some refl)
       by (Some why) some goes = phase_stops w items old.locals mid.locals (progress old) (progress mid) (progress mid) (Some line) why goes
 
@@ -116,23 +117,23 @@ module _ (w : WorldValue) (items : List Item) (old mid : LaneValue) (ran : Execu
   goes_with line new can last going puts = record {
     path = puts.path ∙ ran.path;
     goes =
-        subst (λ (slots : List ℤ). GoesPast (bar_count (map part_of items)) w (phase_part items (Some line) (site w)) old.locals slots (progress old) (progress new) (answer_of (halt_in new))) (sym puts.locals)
-        (end_goes w items old.locals mid.locals (progress old) (progress mid) (progress new) line last can made (answer_of (halt_in new)) puts.takes);
+        subst (λ (slots : List ℤ). GoesPast (bar_count (map part_of items)) w (phase_part items (Some line) (site w)) old.locals slots (progress old) (progress new) (answer_due (halt_in new))) (sym puts.locals)
+        (end_goes w items old.locals mid.locals (progress old) (progress mid) (progress new) line last can made (answer_due (halt_in new)) puts.takes);
     ended = λ other is none.
         subst (λ (l : ℕ). HasPutEnd w items l old.locals new.locals (progress old) (progress new)) (same_Some line other is)
         (subst (λ (slots : List ℤ). HasPutEnd w items line old.locals slots (progress old) (progress new)) (sym puts.locals)
-        (subst (λ (h : Option Halt). OnOk (answer_of h) (HasPutEnd w items line old.locals mid.locals (progress old) (progress new))) (halt_none new none)
-        (end_ends w items old.locals mid.locals (progress old) (progress mid) (progress new) line last can made (answer_of (halt_in new)) puts.takes)));
+        (subst (λ (h : Option Halt). OnOk (answer_due h) (HasPutEnd w items line old.locals mid.locals (progress old) (progress new))) (halt_none new none)
+        (end_ends w items old.locals mid.locals (progress old) (progress mid) (progress new) line last can made (answer_due (halt_in new)) puts.takes)));
     log = log_later old.buffer mid.buffer new.buffer ran.log puts.log;
     loops = λ none. ap (λ (t : Tally). t.next_loop) (taken none).tally ∙ ran.loops going;
-    ready = still_ready line w.words (progress mid) (progress new) (answer_of (halt_in new)) puts.takes ran.ready;
+    ready = still_ready line w.words (progress mid) (progress new) (answer_due (halt_in new)) puts.takes ran.ready;
     can = λ none.
-        subst (λ (h : Option Halt). OnOk (answer_of h) (CanGo w (progress new))) (halt_none new none)
-        (note_can w (event kind.End line 0 0) 0 (end_note w line last.some) mid.locals (progress mid) (progress new) (answer_of (halt_in new)) (ran.can going) puts.takes);
+        subst (λ (h : Option Halt). OnOk (answer_due h) (CanGo w (progress new))) (halt_none new none)
+        (note_can w (event kind.End line 0 0) 0 (end_note w line last.some) mid.locals (progress mid) (progress new) (answer_due (halt_in new)) (ran.can going) puts.takes);
   }
     where
       made : MadePast (bar_count (map part_of items)) w (run_parts (site w) (map part_of items)) old.locals mid.locals (progress old) (progress mid) (Returned tt)
-      made = subst (λ (h : Option Halt). GoesPast (bar_count (map part_of items)) w (run_parts (site w) (map part_of items)) old.locals mid.locals (progress old) (progress mid) (answer_of h)) (halt_none mid going) ran.goes
+      made = subst (λ (h : Option Halt). GoesPast (bar_count (map part_of items)) w (run_parts (site w) (map part_of items)) old.locals mid.locals (progress old) (progress mid) (answer_due h)) (halt_none mid going) ran.goes
 
-      taken : new.stopped ≡ None → Takes (event kind.End line 0 0) mid.hand.view (progress mid) (progress new)
-      taken none = subst (λ (h : Option Halt). TakesOrHalts (event kind.End line 0 0) mid.hand.view (progress mid) (progress new) (answer_of h)) (halt_none new none) puts.takes
+      taken : new.stopped ≡ None → PutsRecord (event kind.End line 0 0) mid.hand.view (progress mid) (progress new)
+      taken none = subst (λ (h : Option Halt). TakesOrHalts (event kind.End line 0 0) mid.hand.view (progress mid) (progress new) (answer_due h)) (halt_none new none) puts.takes

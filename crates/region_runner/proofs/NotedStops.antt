@@ -8,11 +8,11 @@ use Rattle.lane_runner.specs.declared.stop.Halt.TheVariants as halt
 use Rattle.lane_runner.specs.declared.stop.Stop.{Stop}
 use Rattle.lane_runner.specs.declared.stop.Stop.TheVariants as stop
 use Rattle.lane_runner.specs.Handed.{MaybeStop}
-use Rattle.lane_runner.specs.Lane.{halt_of, own_halt, stop_of}
+use Rattle.lane_runner.specs.Lane.{halt_of, stop_of}
 use Rattle.lane_runner.proofs.Halting.{equal_paths}
 use Rattle.region_runner.specs.Gathering.{lane_stop}
 
-own_stop : (at path : List Step) (why : Stop) → at ≡ path → stop_of path (own_halt why) ≡ (at, why)
+own_stop : (at path : List Step) (why : Stop) → at ≡ path → stop_of path (halt.Own why) ≡ (at, why)
 own_stop at path (stop.DivZero line) same = ap (λ (p : List Step). (p, stop.DivZero line)) (sym same)
 own_stop at path (stop.Index line) same = ap (λ (p : List Step). (p, stop.Index line)) (sym same)
 own_stop at path (stop.LogFull line) same = ap (λ (p : List Step). (p, stop.LogFull line)) (sym same)
@@ -22,6 +22,6 @@ own_stop at path (stop.Trouble trouble) same = ap (λ (p : List Step). (p, stop.
 pub stop_unrefused : (path : List Step) (noted : MaybeStop) → noted ≡ lane_stop path (halt_of path noted) None
 stop_unrefused path None = refl
 stop_unrefused path (Some (at, why)) = by (eq_by_cmp path_cmp at path) refl where
-  by : (same : Bool) → eq_by_cmp path_cmp at path ≡ same → Some (at, why) ≡ Some (stop_of path (if same then own_halt why else halt.Region at why))
+  by : (same : Bool) → eq_by_cmp path_cmp at path ≡ same → Some (at, why) ≡ Some (stop_of path (if same then halt.Own why else halt.Region at why))
   by true is = ap Some (sym (own_stop at path why (equal_paths at path is)))
   by false is = refl

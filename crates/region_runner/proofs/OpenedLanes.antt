@@ -19,7 +19,7 @@ use Rattle.shared_words.specs.Draws.{lent, lent_share}
 use Rattle.shared_words.specs.declared.view.View.{View}
 use Rattle.shared_words.specs.Handles.{HandValue, with_view}
 use Rattle.lane_runner.specs.Going.{Progress}
-use Rattle.lane_runner.specs.Handed.{Entry, LogPlace, place_of}
+use Rattle.lane_runner.specs.Handed.{HandedEntry, LogPlace, log_place}
 use Rattle.region_runner.specs.Begins.{LaneBegins}
 use Rattle.region_runner.specs.Gathering.{ClosedValue}
 use Rattle.lane_runner.specs.Lane.{LaneValue}
@@ -36,7 +36,7 @@ nothing_torn (Some t) piece = record {
   tears = ap (λ (bytes : List ℕ). Some (record { bytes = bytes; pieces = t.pieces })) (sym (append-nil t.bytes));
 }
 
-pub refused_gives : (place : LogPlace) (path : List Step) (c : ClosedValue) (own : Entry) (draws : HandValue Share) (trouble : Trouble) (old_text : Option Text)
+pub refused_gives : (place : LogPlace) (path : List Step) (c : ClosedValue) (own : HandedEntry) (draws : HandValue Share) (trouble : Trouble) (old_text : Option Text)
     → c ≡ record { path = path; own = own; below = []; halt = None; refused = Some trouble; draws = draws } → own.task ≡ path → own.dir ≡ place.dir → own.path ≡ path → is_some old_text ≡ place.tells
     → WhereTold old_text (λ text. text ≡ empty_text) → TearsPiece old_text own.text (log_header FORMAT) → own.count ≡ 0 → (trouble ≡ Failed → 0 < own.faults) → GaveNothing place path draws c × (c.refused ≢ None)
 refused_gives place path c own draws trouble old_text is task dir own_path tells empty torn count failed =
@@ -63,7 +63,7 @@ lane_begins place path slots own_slots draws hand dir log_path text faults size 
       going = refl;
       own = ap (λ (x : Buffered). x.path) b_is ∙ own;
       place_is =
-          ap (λ (x : Buffered). place_of x) b_is
+          ap (λ (x : Buffered). log_place x) b_is
           ∙ ap (λ (t : Bool). record { dir = dir; size = size; tells = t }) (still text)
           ∙ sym place_is;
       none_put = ap (λ (x : Buffered). x.count) b_is;

@@ -9,7 +9,7 @@ use Rattle.log_format.specs.Format.{log_header}
 use Rattle.shared_words.specs.declared.share.Share.{Share}
 use Rattle.shared_words.specs.Handles.{HandValue}
 use Rattle.lane_runner.specs.declared.stop.Halt.{Halt}
-use Rattle.lane_runner.specs.Handed.{Entry, HandsOn, LogPlace}
+use Rattle.lane_runner.specs.Handed.{HandedEntry, HandsOn, LogPlace}
 use Rattle.lane_runner.specs.Drawing.{Tally}
 use Rattle.lane_runner.proofs.Handing.{hand_none}
 use Rattle.lane_runner.proofs.Halting.{halt_none}
@@ -37,7 +37,7 @@ module _ (place : LogPlace) (path : List Step) (slots : List ℤ) (draws : HandV
       failed = closes.1.failed;
       faultless = closes.1.faultless;
       hands =
-          subst (λ (es : List Entry). HandsOn place (region_stop c.halt) c.path 0 [] [] es) (sym (closes.2 ∙ begins.none_handed))
+          subst (λ (es : List HandedEntry). HandsOn place (region_stop c.halt) c.path 0 [] [] es) (sym (closes.2 ∙ begins.none_handed))
           (subst (λ (h : Option Halt). HandsOn place (region_stop h) c.path 0 [] [] []) (sym none) (hand_none place c.path 0 []));
       under = λ below why is. absurd (no_halt (sym none ∙ is));
       refusal = λ trouble is other. absurd (no_halt (sym none ∙ is));

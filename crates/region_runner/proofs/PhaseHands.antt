@@ -12,7 +12,7 @@ use Rattle.lane_runner.proofs.Phases.{stays}
 use Rattle.region_runner.specs.LastPhase.{WentOn, phase_part}
 use Rattle.region_runner.specs.Crew.{CrewValue, world_of}
 use Rattle.region_runner.specs.Hands.{IsLaneHand, lane_hand, parted_for}
-use Rattle.lane_runner.specs.Lane.{CanGoOn, LaneValue, answer_of, halt_in, progress, with_hand}
+use Rattle.lane_runner.specs.Lane.{CanGoOn, LaneValue, answer_due, halt_in, progress, with_hand}
 use Rattle.region_runner.specs.Stands.{MayGoOn}
 
 pub parted_name : (lane span count : ℕ) (v : View) → (parted_for lane span count v).name ≡ v.name
@@ -40,7 +40,7 @@ pub comes_home : (crew : CrewValue) (items : List Item) (end : Option ℕ) (lane
 comes_home crew items end lane home m mid went name is =
     let same : mid.hand.view.name ≡ (home.view.splits + lane) ∷ home.view.name =
     stays (λ v. v.name) (λ word v work. refl) (bar_count (map part_of items)) (world_of crew lane) (phase_part items end (site (world_of crew lane))) m.locals mid.locals (progress (with_hand m (lane_hand home lane))) (progress mid)
-    (answer_of (halt_in mid)) went.goes in
+    (answer_due (halt_in mid)) went.goes in
     record {
       belongs = went.ready.free.belongs;
       split = same ∙ ap (λ (n : ℕ). n ∷ home.view.name) (sym (ap split_number same)) ∙ ap (λ (p : Name). split_number mid.hand.view.name ∷ p) (sym is);

@@ -8,6 +8,7 @@ use Rattle.history_model.specs.Joined.{LastIsEnd}
 use Rattle.history_model.specs.Work.{Work, work_records}
 use Rattle.execution_model.specs.Runs.{AreReleased, works_log}
 use Rattle.execution_laws.proofs.Prefixes.{barriers_same, ends_same}
+use Rattle.lane_runner.specs.declared.stop.Stop.TheVariants as stop
 use Rattle.lane_runner.specs.declared.stop.Halt.{Halt}
 use Rattle.lane_runner.specs.declared.stop.Halt.TheVariants as halt
 use Rattle.lane_runner.specs.Going.{Progress, HasReleased}
@@ -30,9 +31,9 @@ is_put works own r =
 
 pub goes_put : (w : WorldValue) (part : State → Outcome (Unit {0})) (slots slots' : List ℤ) (old new : Progress) (works : List Work) (r : Result (Unit {0}) Halt) → TaskGoes w part slots slots' old new works r → IsPut works
 goes_put w part slots slots' old new works (Ok u) t = is_put works t.own t.released
-goes_put w part slots slots' old new works (Err (halt.DivZero line)) t = is_put works t.own t.released
-goes_put w part slots slots' old new works (Err (halt.Index line)) t = is_put works t.own t.released
-goes_put w part slots slots' old new works (Err (halt.LogFull line)) t = is_put works t.own t.released
+goes_put w part slots slots' old new works (Err (halt.Own (stop.DivZero line))) t = is_put works t.own t.released
+goes_put w part slots slots' old new works (Err (halt.Own (stop.Index line))) t = is_put works t.own t.released
+goes_put w part slots slots' old new works (Err (halt.Own (stop.LogFull line))) t = is_put works t.own t.released
 goes_put w part slots slots' old new works (Err (halt.Region path why)) t = is_put works t.own t.released
-goes_put w part slots slots' old new works (Err (halt.Tasks line)) t = is_put works t.own t.released
-goes_put w part slots slots' old new works (Err (halt.Trouble trouble)) (t, refused) = is_put works t.own t.released
+goes_put w part slots slots' old new works (Err (halt.Own (stop.Tasks line))) t = is_put works t.own t.released
+goes_put w part slots slots' old new works (Err (halt.Own (stop.Trouble trouble))) (t, refused) = is_put works t.own t.released

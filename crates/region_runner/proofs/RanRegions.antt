@@ -27,9 +27,9 @@ use Rattle.lane_runner.specs.Stopping.{GoesFurther}
 use Rattle.region_runner.specs.Begins.{LaneBegins}
 use Rattle.region_runner.specs.Crew.{CrewValue, world_of}
 use Rattle.region_runner.specs.Drawing.{drawn_by}
-use Rattle.lane_runner.specs.Lane.{LaneValue, answer_of, halt_in, progress, stop_of}
+use Rattle.lane_runner.specs.Lane.{LaneValue, answer_due, halt_in, progress, stop_of}
 use Rattle.region_runner.specs.Ran.{TaskGoes, task_part}
-use Rattle.region_runner.specs.Stands.{IsBehind, LaneStands, TeamRan, put_in}
+use Rattle.region_runner.specs.Stands.{IsBehind, LaneStands, TeamRan, records_put}
 use Rattle.region_runner.specs.Stopping.{StopsTask}
 use Rattle.region_runner.proofs.PutLogs.{IsPut, goes_put}
 use Rattle.region_runner.proofs.RegionDraws.{goes_logged, lane_drew, region_draws}
@@ -54,15 +54,15 @@ module _ (crew : CrewValue) (team : TeamTree) (slots : List ℤ) (items : List (
   first k = task_begins fork k (world_of crew k) refl span_is items runs ran.done ran.left ran.is ran.end ran.end_is
 
   pub lane_goes : (k : ℕ) (less : k < crew.span)
-      → TaskGoes (world_of crew k) (task_part (site (world_of crew k)) ran.done ran.end) slots (now k).locals (progress (start k)) (ran.stands.lanes k d less).last (lane_works k ran.phases) (answer_of (halt_in (now k)))
+      → TaskGoes (world_of crew k) (task_part (site (world_of crew k)) ran.done ran.end) slots (now k).locals (progress (start k)) (ran.stands.lanes k d less).last (lane_works k ran.phases) (answer_due (halt_in (now k)))
   lane_goes k less =
-      subst (λ (ss : List ℤ). TaskGoes (world_of crew k) (task_part (site (world_of crew k)) ran.done ran.end) ss (now k).locals (progress (start k)) (ran.stands.lanes k d less).last (lane_works k ran.phases) (answer_of (halt_in (now k))))
+      subst (λ (ss : List ℤ). TaskGoes (world_of crew k) (task_part (site (world_of crew k)) ran.done ran.end) ss (now k).locals (progress (start k)) (ran.stands.lanes k d less).last (lane_works k ran.phases) (answer_due (halt_in (now k))))
       (begins k d less).locals_are (ran.stands.lanes k d less).goes
 
   pub ran_lanes : (program : Program) → program.arrays ≡ crew.arrays → (k : ℕ) → k < crew.span → RunsTask program (lane_begin fork k) (lane_works k ran.phases)
   ran_lanes program arrays k less =
       lane_ran program fork k (world_of crew k) arrays (task_part (site (world_of crew k)) ran.done ran.end) (first k) (now k).locals (progress (start k)) (ran.stands.lanes k d less).last (begins k d less).none_put ran.phases
-      (answer_of (halt_in (now k))) (lane_goes k less)
+      (answer_due (halt_in (now k))) (lane_goes k less)
 
   drew : (k : ℕ) → k < crew.span → TellDraws 0 (works_log (lane_works k ran.phases)) (now k).tally.draws.view.drawn (now k).tally.next_loop
   drew k less =
@@ -70,14 +70,14 @@ module _ (crew : CrewValue) (team : TeamTree) (slots : List ℤ) (items : List (
       let stands = ran.stands.lanes k d less in
       subst (λ (t : Tally). TellDraws 0 (works_log (lane_works k ran.phases)) t.draws.view.drawn t.next_loop) (sym stands.up.tally)
       (lane_drew (progress (start k)) stands.last (lane_works k ran.phases)
-      (goes_logged (world_of crew k) (task_part (site (world_of crew k)) ran.done ran.end) slots (now k).locals (progress (start k)) stands.last (lane_works k ran.phases) (answer_of (halt_in (now k))) (lane_goes k less))
+      (goes_logged (world_of crew k) (task_part (site (world_of crew k)) ran.done ran.end) slots (now k).locals (progress (start k)) stands.last (lane_works k ran.phases) (answer_due (halt_in (now k))) (lane_goes k less))
       (ap (λ (t : Tally). t.next_loop) b.tally) (ap (λ (t : Tally). t.draws.view.drawn) b.tally ∙ unused k less))
 
   -- each lane's hand on the counters is the one that it got
   pub same_hand : (k : ℕ) → k < crew.span → ((now k).tally.draws.table ≡ (draws k).table) × ((now k).tally.draws.there ≡ (draws k).there) × ((now k).tally.draws.view.first ≡ (draws k).view.first)
   same_hand k less =
       let stands = ran.stands.lanes k d less in
-      let logged = goes_logged (world_of crew k) (task_part (site (world_of crew k)) ran.done ran.end) slots (now k).locals (progress (start k)) stands.last (lane_works k ran.phases) (answer_of (halt_in (now k))) (lane_goes k less) in
+      let logged = goes_logged (world_of crew k) (task_part (site (world_of crew k)) ran.done ran.end) slots (now k).locals (progress (start k)) stands.last (lane_works k ran.phases) (answer_due (halt_in (now k))) (lane_goes k less) in
       let mine : (start k).tally.draws ≡ draws k = ap (λ (t : Tally). t.draws) (begins k d less).tally in
       let drew : (now k).tally.draws ≡ record (start k).tally.draws { view = after_draws logged.draws.drawn (start k).tally.draws.view } = ap (λ (t : Tally). t.draws) stands.up.tally ∙ logged.draws.draws in (
         ap (λ (h : HandValue Share). h.table) drew ∙ ap (λ (h : HandValue Share). h.table) mine,
@@ -96,12 +96,12 @@ module _ (crew : CrewValue) (team : TeamTree) (slots : List ℤ) (items : List (
       let b = begins k d less in
       stops_task fork k (world_of crew k) (task_part (site (world_of crew k)) ran.done ran.end) (first k) (now k).locals (progress (start k)) (ran.stands.lanes k d less).last b.none_put (lane_works k ran.phases) (lane_of at number k team.span) b.own
       (ap (λ (t : Tally). t.forked) b.tally) h
-      (subst (λ (x : Option Halt). TaskGoes (world_of crew k) (task_part (site (world_of crew k)) ran.done ran.end) slots (now k).locals (progress (start k)) (ran.stands.lanes k d less).last (lane_works k ran.phases) (answer_of x)) is (lane_goes k less))
+      (subst (λ (x : Option Halt). TaskGoes (world_of crew k) (task_part (site (world_of crew k)) ran.done ran.end) slots (now k).locals (progress (start k)) (ran.stands.lanes k d less).last (lane_works k ran.phases) (answer_due x)) is (lane_goes k less))
 
   -- a lane's log lacks no barrier and no End of what it put
   logged : (k : ℕ) (less : k < crew.span) → IsPut (lane_works k ran.phases)
   logged k less =
-      goes_put (world_of crew k) (task_part (site (world_of crew k)) ran.done ran.end) slots (now k).locals (progress (start k)) (ran.stands.lanes k d less).last (lane_works k ran.phases) (answer_of (halt_in (now k))) (lane_goes k less)
+      goes_put (world_of crew k) (task_part (site (world_of crew k)) ran.done ran.end) slots (now k).locals (progress (start k)) (ran.stands.lanes k d less).last (lane_works k ran.phases) (answer_due (halt_in (now k))) (lane_goes k less)
 
   -- a lane that goes on went further than one that doesn't
   pub ran_further : (j k : ℕ) → j < crew.span → k < crew.span → (now j).stopped ≡ None → (h : Halt) → halt_in (now k) ≡ Some h → GoesFurther (works_log (lane_works j ran.phases)) (works_log (lane_works k ran.phases))
@@ -109,7 +109,7 @@ module _ (crew : CrewValue) (team : TeamTree) (slots : List ℤ) (items : List (
     ahead : LaneStands crew (start j) ran.done ran.end ran.phases j (now j)
     ahead = ran.stands.lanes j d less
 
-    behind : IsBehind ran.done (barrier_count (put_in k ran.phases))
+    behind : IsBehind ran.done (barrier_count (records_put k ran.phases))
     behind = (ran.stands.lanes k d within).behind h stops
 
     by : (end : Option ℕ) → ran.end ≡ end → GoesFurther (works_log (lane_works j ran.phases)) (works_log (lane_works k ran.phases))

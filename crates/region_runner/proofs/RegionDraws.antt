@@ -11,6 +11,7 @@ use Rattle.execution_model.specs.Runs.{RunsTask, lane_begin, region_logs, works_
 use Rattle.shared_words.specs.declared.share.Share.{Share}
 use Rattle.shared_words.specs.Draws.{AreEachOnce, numbers}
 use Rattle.shared_words.specs.Handles.{HandValue}
+use Rattle.lane_runner.specs.declared.stop.Stop.TheVariants as stop
 use Rattle.lane_runner.specs.declared.stop.Halt.{Halt}
 use Rattle.lane_runner.specs.declared.stop.Halt.TheVariants as halt
 use Rattle.lane_runner.specs.Drawing.{TellDraws}
@@ -27,12 +28,12 @@ begun_of program start works (RunsTask.runs s ws forks later begun released is r
 -- what the lane's log gained
 pub goes_logged : (w : WorldValue) (part : State → Outcome (Unit {0})) (slots slots' : List ℤ) (old new : Progress) (works : List Work) (r : Result (Unit {0}) Halt) → TaskGoes w part slots slots' old new works r → HasLogged old new (in_one works)
 goes_logged w part slots slots' old new works (Ok u) t = t.logged
-goes_logged w part slots slots' old new works (Err (halt.DivZero line)) t = t.logged
-goes_logged w part slots slots' old new works (Err (halt.Index line)) t = t.logged
-goes_logged w part slots slots' old new works (Err (halt.LogFull line)) t = t.logged
+goes_logged w part slots slots' old new works (Err (halt.Own (stop.DivZero line))) t = t.logged
+goes_logged w part slots slots' old new works (Err (halt.Own (stop.Index line))) t = t.logged
+goes_logged w part slots slots' old new works (Err (halt.Own (stop.LogFull line))) t = t.logged
 goes_logged w part slots slots' old new works (Err (halt.Region path why)) t = t.logged
-goes_logged w part slots slots' old new works (Err (halt.Tasks line)) t = t.logged
-goes_logged w part slots slots' old new works (Err (halt.Trouble trouble)) (t, refused) = t.logged
+goes_logged w part slots slots' old new works (Err (halt.Own (stop.Tasks line))) t = t.logged
+goes_logged w part slots slots' old new works (Err (halt.Own (stop.Trouble trouble))) (t, refused) = t.logged
 
 -- its hand on the counters has the draws that its log tells
 pub lane_drew : (old new : Progress) (works : List Work) → HasLogged old new (in_one works) → old.tally.next_loop ≡ 0 → old.tally.draws.view.drawn ≡ [] → TellDraws 0 (works_log works) new.tally.draws.view.drawn new.tally.next_loop

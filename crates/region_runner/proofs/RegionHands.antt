@@ -7,10 +7,10 @@ use Rattle.race_model.specs.Listing.{lane_of}
 use Rattle.history_model.specs.Work.{Phases, lane_works}
 use Rattle.lane_runner.specs.declared.stop.Stop.{Stop}
 use Rattle.lane_runner.specs.declared.stop.Stop.TheVariants.{Trouble}
-use Rattle.lane_runner.specs.Handed.{Entry, LogPlace, MaybeStop, MayLack, TaskHands, RegionsHand, LanesHand, TellStop, HandsOn}
+use Rattle.lane_runner.specs.Handed.{HandedEntry, LogPlace, MaybeStop, MayLack, TaskHands, RegionsHand, LanesHand, TellStop, HandsOn}
 use Rattle.region_runner.specs.Team.{handed_by}
 
-lanes_from : (place : LogPlace) (stop : MaybeStop) (at : List Step) (number span : ℕ) (phases : Phases) (entries : ℕ → List Entry) (first count : ℕ)
+lanes_from : (place : LogPlace) (stop : MaybeStop) (at : List Step) (number span : ℕ) (phases : Phases) (entries : ℕ → List HandedEntry) (first count : ℕ)
     → ((i : ℕ) → i < count → TaskHands place stop (lane_of at number (first + i) span) (lane_works (first + i) phases) (entries (first + i)))
     → LanesHand place stop at number (record { span = span; phases = phases }) first count (handed_by entries first count)
 lanes_from place stop at number span phases entries first zero each = LanesHand.no_lane at number (record { span = span; phases = phases }) first
@@ -21,14 +21,14 @@ lanes_from place stop at number span phases entries first (suc count) each =
     (λ i less. subst (λ (n : ℕ). TaskHands place stop (lane_of at number n span) (lane_works n phases) (entries n)) (let e : first + suc i ≡ suc first + i = omega arith in e) (each (suc i) (omega arith))))
 
 -- what a region hands on, by what each of its lanes does
-pub region_hands : (place : LogPlace) (stop : MaybeStop) (at : List Step) (number span : ℕ) (phases : Phases) (entries : ℕ → List Entry) (before : List Entry)
+pub region_hands : (place : LogPlace) (stop : MaybeStop) (at : List Step) (number span : ℕ) (phases : Phases) (entries : ℕ → List HandedEntry) (before : List HandedEntry)
     → ((k : ℕ) → k < span → TaskHands place stop (lane_of at number k span) (lane_works k phases) (entries k)) → TellStop stop (handed_by entries 0 span)
     → HandsOn place stop at number (record { span = span; phases = phases } ∷ []) before (before ++ handed_by entries 0 span)
 region_hands place stop at number span phases entries before each tell = record {
   added = handed_by entries 0 span;
   grows = refl;
   hands =
-      subst (λ (es : List Entry). RegionsHand place stop at number (record { span = span; phases = phases } ∷ []) es) (append-nil (handed_by entries 0 span))
+      subst (λ (es : List HandedEntry). RegionsHand place stop at number (record { span = span; phases = phases } ∷ []) es) (append-nil (handed_by entries 0 span))
       (RegionsHand.region at number (record { span = span; phases = phases }) [] (handed_by entries 0 span) []
       (lanes_from place stop at number span phases entries 0 span
       (λ i less. subst (λ (n : ℕ). TaskHands place stop (lane_of at number n span) (lane_works n phases) (entries n)) (let e : i ≡ 0 + i = omega arith in e) (each i less)))

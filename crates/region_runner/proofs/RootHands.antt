@@ -12,10 +12,10 @@ use Rattle.lane_runner.specs.declared.stop.Halt.TheVariants as halt
 use Rattle.lane_runner.specs.declared.stop.Stop.{Stop}
 use Rattle.lane_runner.specs.declared.stop.Stop.TheVariants as stop
 use Rattle.lane_runner.specs.Forking.{Answer}
-use Rattle.lane_runner.specs.Handed.{Entry, IsForMemory, LogPlace, MaybeStop, MayLack, RegionsHand, TaskHands, TellStop}
+use Rattle.lane_runner.specs.Handed.{HandedEntry, IsForMemory, LogPlace, MaybeStop, MayLack, RegionsHand, TaskHands, TellStop}
 use Rattle.lane_runner.proofs.Handing.{tell_none}
 use Rattle.lane_runner.specs.Lane.{stop_of}
-use Rattle.region_runner.specs.Gathering.{ClosedValue, IsVerdict, WantsMemory, answer_for, closed_stop, kept_by, lane_stop, region_stop}
+use Rattle.region_runner.specs.Gathering.{ClosedValue, IsGathered, WantsMemory, answer_for, closed_stop, kept_by, lane_stop, region_stop}
 use Rattle.region_runner.specs.Root.{IsSettled, RanRoot, RootGave, RootRests, SettledRoot, StopsRoot}
 use Rattle.region_runner.specs.declared.gathering.Verdict.{Verdict}
 use Rattle.region_runner.specs.declared.gathering.Verdict.TheVariants as verdict
@@ -36,10 +36,10 @@ stopped_one : (one other : List Step × Stop) → err one ≡ err other → one 
 stopped_one one other e = cc
 
 module _ (program : Program) (place : LogPlace) (old new : HandValue View) (c : ClosedValue) (g : RootGave program place old new c) where
-  abbrev Hands : MaybeStop → List Entry → Type 0
+  abbrev Hands : MaybeStop → List HandedEntry → Type 0
   Hands s es = TaskHands place s [] (g.work ∷ []) es
 
-  at_root : (s : MaybeStop) (es : List Entry) → TaskHands place s c.path (g.work ∷ []) es → Hands s es
+  at_root : (s : MaybeStop) (es : List HandedEntry) → TaskHands place s c.path (g.work ∷ []) es → Hands s es
   at_root s es hands = subst (λ (p : List Step). TaskHands place s p (g.work ∷ []) es) g.path_is hands
 
   -- how it stopped
@@ -103,7 +103,7 @@ module _ (program : Program) (place : LogPlace) (old new : HandValue View) (c : 
 
   -- ---- by what is answered
 
-  abbrev Rests : List Entry → Answer → Type 0
+  abbrev Rests : List HandedEntry → Answer → Type 0
   Rests logs r = RootRests program place old new logs r
 
   ended : c.halt ≡ None → c.refused ≡ None → Rests (c.own ∷ c.below) (Ok tt)
@@ -118,7 +118,7 @@ module _ (program : Program) (place : LogPlace) (old new : HandValue View) (c : 
     few = λ is. let few = g.few none unrefused in omega (arith, few);
   }
 
-  stopped : (logs : List Entry) (at : List Step × Stop) → Hands (Some at) logs → TellStop (Some at) logs → Stops at.0 at.1 → Rests logs (Err at)
+  stopped : (logs : List HandedEntry) (at : List Step × Stop) → Hands (Some at) logs → TellStop (Some at) logs → Stops at.0 at.1 → Rests logs (Err at)
   stopped logs at hands tell it = record {
     work = g.work;
     did = g.did;
@@ -142,7 +142,7 @@ module _ (program : Program) (place : LogPlace) (old new : HandValue View) (c : 
     by (inl is) = stops path (stop.Trouble Memory) (stopped_as c path (stop.Trouble Memory) is)
     by (inr is) = log_stops path Memory is.0
 
-  settled_as : (kept : Bool) (v : Verdict) → IsVerdict c.path c.halt c.refused kept v → Rests (kept_by kept c) (answer_for v)
+  settled_as : (kept : Bool) (v : Verdict) → IsGathered c.path c.halt c.refused kept v → Rests (kept_by kept c) (answer_for v)
   settled_as true verdict.Ended is = ended is.0 is.1
   settled_as true (verdict.Refused at why) is = halted at why is.1 is.3
   settled_as true (verdict.Halted at why) is = halted at why is.1 is.3
@@ -151,10 +151,10 @@ module _ (program : Program) (place : LogPlace) (old new : HandValue View) (c : 
   settled_as false (verdict.Halted at why) is = absurd (true≢false (sym is.2))
   settled_as kept (verdict.Wanted at) is = wanted at kept is
 
-  settled : (logs : List Entry) (r : Answer) → SettledRoot c logs r → Rests logs r
+  settled : (logs : List HandedEntry) (r : Answer) → SettledRoot c logs r → Rests logs r
   settled logs r s =
       subst (λ (x : Answer). Rests logs x) (sym s.answer)
-      (subst (λ (es : List Entry). Rests es (answer_for s.verdict)) (sym s.took.grows) (settled_as s.took.kept s.verdict s.took.verdict))
+      (subst (λ (es : List HandedEntry). Rests es (answer_for s.verdict)) (sym s.took.grows) (settled_as s.took.kept s.verdict s.took.verdict))
 
 -- nothing was done
 module _ (program : Program) (place : LogPlace) (hand : HandValue View) (there : hand.there ≡ true) where
@@ -177,10 +177,10 @@ module _ (program : Program) (place : LogPlace) (hand : HandValue View) (there :
   }
 
 -- the root ran, or no memory was found for it
-pub root_rests : (program : Program) (place : LogPlace) (old new : HandValue View) (closed : Option ClosedValue) (logs : List Entry) (r : Answer) → old.there ≡ true → RanRoot program place old new closed → IsSettled closed logs r
+pub root_rests : (program : Program) (place : LogPlace) (old new : HandValue View) (closed : Option ClosedValue) (logs : List HandedEntry) (r : Answer) → old.there ≡ true → RanRoot program place old new closed → IsSettled closed logs r
     → RootRests program place old new logs r
 root_rests program place old new (Some c) logs r there g s = settled program place old new c g logs r s
 root_rests program place old new None logs r there same (none, is) =
     subst (λ (x : Answer). RootRests program place old new logs x) (sym is)
-    (subst (λ (es : List Entry). RootRests program place old new es (Err ([], stop.Trouble Memory))) (sym none)
+    (subst (λ (es : List HandedEntry). RootRests program place old new es (Err ([], stop.Trouble Memory))) (sym none)
     (subst (λ (h : HandValue View). RootRests program place old h [] (Err ([], stop.Trouble Memory))) (sym same) (nothing_done program place old there)))

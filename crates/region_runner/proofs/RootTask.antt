@@ -19,7 +19,7 @@ use Rattle.execution_model.specs.Runs.{RunsTask, RunsRegions, lane_begin}
 use Rattle.lane_runner.specs.declared.stop.Halt.{Halt}
 use Rattle.lane_runner.specs.Drawing.{Tally}
 use Rattle.lane_runner.specs.Going.{site}
-use Rattle.lane_runner.specs.Handed.{AreFew, Entry, LogPlace}
+use Rattle.lane_runner.specs.Handed.{AreFew, HandedEntry, LogPlace}
 use Rattle.execution_model.specs.Elements.{element_word}
 use Rattle.lane_runner.proofs.Working.{hand_still, worked_none}
 use Rattle.region_runner.specs.LastPhase.{IsLast}
@@ -28,7 +28,7 @@ use Rattle.region_runner.specs.Closing.{IsClosedAs}
 use Rattle.region_runner.specs.Crew.{CrewValue, world_of}
 use Rattle.region_runner.specs.Gathering.{ClosedValue, LaneGave}
 use Rattle.lane_runner.proofs.Halting.{stopped_none}
-use Rattle.lane_runner.specs.Lane.{LaneValue, answer_of, halt_in, progress, stop_of}
+use Rattle.lane_runner.specs.Lane.{LaneValue, answer_due, halt_in, progress, stop_of}
 use Rattle.region_runner.specs.Opening.{GaveNothing}
 use Rattle.region_runner.specs.Ran.{TaskGoes, task_part}
 use Rattle.region_runner.specs.Root.{RootClosed, RootGave, StopsRoot}
@@ -65,12 +65,12 @@ module _ (program : Program) (place : LogPlace) (crew : CrewValue) (items : List
       (λ line is. subst (λ (n : ℕ). IsLast items n) (same_Some program.main.end line is) last)
 
   abbrev Goes : Option Halt → Type 0
-  Goes h = TaskGoes (world_of crew 0) part fork.slots after.locals (progress root) (progress after) (steps.work ∷ []) (answer_of h)
+  Goes h = TaskGoes (world_of crew 0) part fork.slots after.locals (progress root) (progress after) (steps.work ∷ []) (answer_due h)
 
   goes : Goes c.halt
   goes =
       subst (λ (h : Option Halt). Goes h) (sym closed.closes.4)
-      (subst (λ (ss : List ℤ). TaskGoes (world_of crew 0) part ss after.locals (progress root) (progress after) (steps.work ∷ []) (answer_of (halt_in after))) begins.locals_are steps.goes)
+      (subst (λ (ss : List ℤ). TaskGoes (world_of crew 0) part ss after.locals (progress root) (progress after) (steps.work ∷ []) (answer_due (halt_in after))) begins.locals_are steps.goes)
 
   path_is : c.path ≡ []
   path_is = closed.closes.0 ∙ closed.went.path ∙ begins.path_is
@@ -82,7 +82,7 @@ module _ (program : Program) (place : LogPlace) (crew : CrewValue) (items : List
       closed.closes.2 begins.none_handed begins.holds (ap (λ (t : Tally). t.forked) begins.tally) (begins.own ∙ sym path_is) begins.place_is goes
 
   few : (h : Option Halt) → h ≡ None → Goes h → AreFew c.below
-  few None is t = subst (λ (es : List Entry). AreFew es) (sym closed.closes.2) (t.few (subst (λ (es : List Entry). AreFew es) (sym begins.none_handed) (omega arith)))
+  few None is t = subst (λ (es : List HandedEntry). AreFew es) (sym closed.closes.2) (t.few (subst (λ (es : List HandedEntry). AreFew es) (sym begins.none_handed) (omega arith)))
   few (Some h) is t = absurd (no_halt is) where
     no_halt : Some h ≡ None → ⊥
     no_halt e = cc
@@ -101,7 +101,7 @@ module _ (program : Program) (place : LogPlace) (crew : CrewValue) (items : List
     gave = gave;
     runs =
         runs_goes program (lane_begin fork 0) (world_of crew 0) (sym arrays) part first.rest first.grows (first.is program (sym arrays)) after.locals (progress root) (progress after) begins.none_put (steps.work ∷ [])
-        (answer_of c.halt) goes;
+        (answer_due c.halt) goes;
     ends = λ none unrefused. steps.ends program.main.end refl (stopped_none after (sym closed.closes.4 ∙ none));
     halts = halts;
     few = λ none unrefused. few c.halt none goes;

@@ -15,7 +15,7 @@ use Rattle.lane_runner.specs.declared.stop.Halt.TheVariants as halt
 use Rattle.lane_runner.specs.declared.stop.Stop.{Stop}
 use Rattle.lane_runner.specs.declared.stop.Stop.TheVariants as stop
 use Rattle.lane_runner.specs.Forking.{Answer, EndsAs, stop_in}
-use Rattle.lane_runner.specs.Handed.{Entry, LogPlace, MaybeStop, IsForMemory, IsTrouble, MayLack, TaskHands, TellStop, HandsOn}
+use Rattle.lane_runner.specs.Handed.{HandedEntry, LogPlace, MaybeStop, IsForMemory, IsTrouble, MayLack, TaskHands, TellStop, HandsOn}
 use Rattle.execution_model.specs.Runs.{lane_begin, works_log}
 use Rattle.std.proofs.lemmas.Option.{same_Some}
 use Rattle.lane_runner.specs.Stopping.{GoesFurther, IsLeastLane, IsNoTrouble, StopsRegion}
@@ -34,10 +34,10 @@ module _ (place : LogPlace) (arrays : List Array) (at : List Step) (number : ℕ
     (paths : (k : ℕ) → k < fork.team.span → (lanes k).path ≡ lane_of at number k fork.team.span) (gave : (k : ℕ) → k < fork.team.span → LaneGave place (lane_works k phases) (lanes k))
     (halts : (k : ℕ) (h : Halt) → k < fork.team.span → (lanes k).halt ≡ Some h → StopsTask arrays (lanes k).path (stop_of (lanes k).path h).0 (stop_of (lanes k).path h).1 (lane_begin fork k) (lane_works k phases))
     (further : (j k : ℕ) → j < fork.team.span → k < fork.team.span → (lanes j).halt ≡ None → (h : Halt) → (lanes k).halt ≡ Some h → GoesFurther (works_log (lane_works j phases)) (works_log (lane_works k phases))) where
-  abbrev handed : ℕ → List Entry
+  abbrev handed : ℕ → List HandedEntry
   handed k = kept_by (kept k) (lanes k)
 
-  abbrev LaneHands : MaybeStop → ℕ → List Entry → Type 0
+  abbrev LaneHands : MaybeStop → ℕ → List HandedEntry → Type 0
   LaneHands s k es = TaskHands place s (lane_of at number k fork.team.span) (lane_works k phases) es
 
   -- a lane whose log refused
@@ -150,7 +150,7 @@ module _ (place : LogPlace) (arrays : List Array) (at : List Step) (number : ℕ
       of_both (inr (none, others, rest)) = absurd (no_stop (sym none ∙ h_is))
 
   -- what a region answers is how it ends, and its lanes' logs are handed on
-  pub settles : (before : List Entry) (r : Answer) → (((k : ℕ) → k < fork.team.span → ((lanes k).halt ≡ None) × ((lanes k).refused ≡ None)) → PhasesEnd phases) → IsAnswer fork.team.span lanes kept r
+  pub settles : (before : List HandedEntry) (r : Answer) → (((k : ℕ) → k < fork.team.span → ((lanes k).halt ≡ None) × ((lanes k).refused ≡ None)) → PhasesEnd phases) → IsAnswer fork.team.span lanes kept r
       → EndsAs arrays at number fork phases r × HandsOn place (stop_in r) at number (record { span = fork.team.span; phases = phases } ∷ []) before (before ++ handed_by (λ k. kept_by (kept k) (lanes k)) 0 fork.team.span)
   settles before _ ends (IsAnswer.all_ended all) = (
     ends (λ k less. ((all k less).0, (all k less).1)),

@@ -2,6 +2,7 @@
 use Rattle.std.proofs.Common.{◌≡◌, refl, ap, sym, ◌∙◌, subst, ℕ, ◌+◌, ◌-◌, List, [], ◌∷◌, ◌++◌, map, ℤ, Option, Some, None, Result, Ok, arith}
 use Rattle.std.specs.Prelude.{Bool, count_by}
 use Rattle.std.proofs.lemmas.List.{append-nil}
+use Rattle.log_format.specs.Limit.{record_limit}
 use Rattle.log_format.specs.declared.record.Kind.TheVariants as kind
 use Rattle.log_format.specs.declared.record.Record.{Record}
 use Rattle.race_model.specs.Trace.{barrier_count}
@@ -9,7 +10,6 @@ use Rattle.kernel_model.specs.declared.phase.Item.{Item}
 use Rattle.kernel_model.specs.Parts.{Part, bar_count, drawn_count, is_bar, is_drawn, run_parts}
 use Rattle.kernel_model.specs.Phases.{part_of, parts_in}
 use Rattle.kernel_model.specs.State.{State, Outcome, after, event, put}
-use Rattle.kernel_model.specs.Trace.{log_limit}
 use Rattle.kernel_model.specs.Value.{Site}
 use Rattle.kernel_model.specs.Effect.{Returned}
 use Rattle.kernel_model.proofs.Effects.{makes-stays}
@@ -32,7 +32,7 @@ use Rattle.lane_runner.proofs.Releasing.{released_none}
 use Rattle.lane_runner.proofs.Halting.{halt_none, stopped_none}
 use Rattle.region_runner.specs.LastPhase.{IsLast, WentOn, phase_part}
 use Rattle.region_runner.specs.Crew.{CrewValue, world_of}
-use Rattle.lane_runner.specs.Lane.{LaneValue, answer_of, halt_in, progress, with_hand}
+use Rattle.lane_runner.specs.Lane.{LaneValue, answer_due, halt_in, progress, with_hand}
 use Rattle.region_runner.specs.Ran.{TakesUp, TaskGoes, TaskRan, task_part}
 use Rattle.region_runner.specs.Stands.{LaneStands}
 use Rattle.region_runner.specs.Team.{DidWork}
@@ -61,7 +61,7 @@ ran_none w at slots p unrefused = record {
   handed = work_hands_none p p Rest refl refl;
   few = λ less. less;
   unrefused = unrefused;
-  makes = makes-stays (task_part at [] None) slots (log_limit - p.buffer.count) (Returned tt) (λ s same full. refl);
+  makes = makes-stays (task_part at [] None) slots (record_limit - p.buffer.count) (Returned tt) (λ s same full. refl);
   regions = λ program is. RunsRegions.no_region;
 }
 
@@ -109,7 +109,7 @@ bars_after = count_after is_bar
 pub record StepsOn (crew : CrewValue) (items : List Item) (end : Option ℕ) (lane : ℕ) (start : LaneValue) (done : List (List Item)) (phases : Phases) (hand : HandValue View) (mid : LaneValue) : Type 0 where
   pub work : Work
   pub did : DidWork crew.arrays hand mid.hand work
-  pub goes : TaskGoes (world_of crew lane) (task_part (site (world_of crew lane)) (done ++ items ∷ []) end) start.locals mid.locals (progress start) (progress mid) (lane_works lane phases ++ work ∷ []) (answer_of (halt_in mid))
+  pub goes : TaskGoes (world_of crew lane) (task_part (site (world_of crew lane)) (done ++ items ∷ []) end) start.locals mid.locals (progress start) (progress mid) (lane_works lane phases ++ work ∷ []) (answer_due (halt_in mid))
   pub passes : mid.stopped ≡ None → barrier_count (work_records work) ≡ bar_count (map part_of items)
   pub ends : (line : ℕ) → end ≡ Some line → mid.stopped ≡ None → LastIsEnd (work_records work)
   pub short : (h : Halt) → halt_in mid ≡ Some h → barrier_count (work_records work) ≡ 0
@@ -129,7 +129,7 @@ module _ (crew : CrewValue) (items : List Item) (lane : ℕ) (start prev mid : L
   Stood end work r = TaskGoes (world_of crew lane) (task_part at (done ++ items ∷ []) end) start.locals mid.locals (progress start) (progress mid) (lane_works lane phases ++ work ∷ []) r
 
   ran : TaskRan (world_of crew lane) (task_part at done None) start.locals prev.locals (progress start) stands.last (lane_works lane phases) (Returned tt)
-  ran = subst (λ (h : Option Halt). TaskGoes (world_of crew lane) (task_part at done None) start.locals prev.locals (progress start) stands.last (lane_works lane phases) (answer_of h)) (halt_none prev going) stands.goes
+  ran = subst (λ (h : Option Halt). TaskGoes (world_of crew lane) (task_part at done None) start.locals prev.locals (progress start) stands.last (lane_works lane phases) (answer_due h)) (halt_none prev going) stands.goes
 
   up : TakesUp stands.last (progress (with_hand prev hand))
   up = record { buffer = stands.up.buffer; tally = stands.up.tally; done = stands.up.done }
@@ -146,9 +146,9 @@ module _ (crew : CrewValue) (items : List Item) (lane : ℕ) (start prev mid : L
   -- by why it doesn't go on, and whether the phase is the last
   by_halt : (h : Option Halt) → halt_in mid ≡ h → (end : Option ℕ) → WentOn (world_of crew lane) items end (with_hand prev hand) mid → ((line : ℕ) → end ≡ Some line → IsLast items line) → StepsOn crew items end lane start done phases hand mid
   by_halt (Some why) is end went last = record {
-    work = work_in (bar_count (map part_of items)) end (answer_of (halt_in mid)) went.goes;
-    did = did (bar_count (map part_of items)) end (answer_of (halt_in mid)) went.goes;
-    goes = step (bar_count (map part_of items)) end (answer_of (halt_in mid)) went.goes;
+    work = work_in (bar_count (map part_of items)) end (answer_due (halt_in mid)) went.goes;
+    did = did (bar_count (map part_of items)) end (answer_due (halt_in mid)) went.goes;
+    goes = step (bar_count (map part_of items)) end (answer_due (halt_in mid)) went.goes;
     passes = λ none. absurd (not_both (sym is ∙ halt_none mid none));
     ends = λ line is_line none. absurd (not_both (sym is ∙ halt_none mid none));
     short = λ h h_is. short_of (halt_in mid) is went.goes;
@@ -157,16 +157,16 @@ module _ (crew : CrewValue) (items : List Item) (lane : ℕ) (start prev mid : L
       not_both : Some why ≡ None → ⊥
       not_both e = cc
 
-      short_of : (x : Option Halt) → x ≡ Some why → (m : Went (bar_count (map part_of items)) end (answer_of x)) → barrier_count (work_records (work_in (bar_count (map part_of items)) end (answer_of x) m)) ≡ 0
+      short_of : (x : Option Halt) → x ≡ Some why → (m : Went (bar_count (map part_of items)) end (answer_due x)) → barrier_count (work_records (work_in (bar_count (map part_of items)) end (answer_due x) m)) ≡ 0
       short_of None x_is m = absurd (not_both (sym x_is))
       short_of (Some other) x_is m =
           phase_short (world_of crew lane) (phase_part items end at) prev.locals mid.locals (progress (with_hand prev hand)) (progress mid) free (bar_count (map part_of items)) other m
   by_halt None is None went last =
-      let m = subst (λ (h : Option Halt). Went (bar_count (map part_of items)) None (answer_of h)) is went.goes in
+      let m = subst (λ (h : Option Halt). Went (bar_count (map part_of items)) None (answer_due h)) is went.goes in
       record {
         work = m.work;
         did = did (bar_count (map part_of items)) None (Ok tt) m;
-        goes = subst (λ (h : Option Halt). Stood None m.work (answer_of h)) (sym is) (step (bar_count (map part_of items)) None (Ok tt) m);
+        goes = subst (λ (h : Option Halt). Stood None m.work (answer_due h)) (sym is) (step (bar_count (map part_of items)) None (Ok tt) m);
         passes = λ none. m.done.barriers;
         ends = λ line is_line none. absurd (no_end is_line);
         short = λ h h_is. absurd (no_halt (sym is ∙ h_is));
@@ -182,7 +182,7 @@ module _ (crew : CrewValue) (items : List Item) (lane : ℕ) (start prev mid : L
       record {
         work = ended.made.work;
         did = did 0 (Some line) (Ok tt) ended.made;
-        goes = subst (λ (h : Option Halt). Stood (Some line) ended.made.work (answer_of h)) (sym is) (step 0 (Some line) (Ok tt) ended.made);
+        goes = subst (λ (h : Option Halt). Stood (Some line) ended.made.work (answer_due h)) (sym is) (step 0 (Some line) (Ok tt) ended.made);
         passes = λ none. ended.made.done.barriers ∙ sym (last line refl).none;
         ends = λ other is_other none. ended.last;
         short = λ h h_is. absurd (no_halt (sym is ∙ h_is));

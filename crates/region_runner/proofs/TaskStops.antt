@@ -7,7 +7,8 @@ use Rattle.std.proofs.lemmas.Option.{same_Some}
 use Rattle.sw_base.specs.declared.path.Step.{Step}
 use Rattle.sw_base.proofs.Lists.{get_seam}
 use Rattle.log_format.specs.declared.record.Record.{Record}
-use Rattle.kernel_model.specs.State as model
+use Rattle.kernel_model.specs.declared.stop.StopWhy.{StopWhy}
+use Rattle.kernel_model.specs.declared.stop.StopWhy.TheVariants as reason
 use Rattle.kernel_model.specs.State.{State, Fork, Outcome}
 use Rattle.kernel_model.specs.Trace.{Ending, Stopped}
 use Rattle.kernel_model.specs.Folder.{IsTracedTo}
@@ -38,7 +39,7 @@ module _ (fork : Fork) (lane : ℕ) (w : WorldValue) (part : State → Outcome (
   itself_least = record { at = itself_at; least = IsLeastBelow.itself works }
 
   -- the task's own stop
-  itself_stops : (why : model.Stop) (line : ℕ) (it : Stop) → ending_for it ≡ Some (Stopped why line) → ((l : ℕ) → it ≡ stop.Tasks l → ⊥) → TaskRan w part fork.slots slots' old new works (Halted why line)
+  itself_stops : (why : StopWhy) (line : ℕ) (it : Stop) → ending_for it ≡ Some (Stopped why line) → ((l : ℕ) → it ≡ stop.Tasks l → ⊥) → TaskRan w part fork.slots slots' old new works (Halted why line)
       → StopsTask w.arrays own own it (lane_begin fork lane) works
   itself_stops why line it ending other t = record {
     at = itself_at;
@@ -137,9 +138,9 @@ module _ (fork : Fork) (lane : ℕ) (w : WorldValue) (part : State → Outcome (
   -- by why it doesn't go on
   pub stops_task : old.buffer.path ≡ own → old.tally.forked ≡ 0 → (h : Halt) → TaskGoes w part fork.slots slots' old new works (Err h)
       → StopsTask w.arrays own (stop_of own h).0 (stop_of own h).1 (lane_begin fork lane) works
-  stops_task is first (halt.DivZero line) t = itself_stops model.DivZero line (stop.DivZero line) refl (λ l e. cc) t
-  stops_task is first (halt.Index line) t = itself_stops model.Index line (stop.Index line) refl (λ l e. cc) t
-  stops_task is first (halt.LogFull line) t = itself_stops model.LogFull line (stop.LogFull line) refl (λ l e. cc) t
+  stops_task is first (halt.Own (stop.DivZero line)) t = itself_stops reason.DivZero line (stop.DivZero line) refl (λ l e. cc) t
+  stops_task is first (halt.Own (stop.Index line)) t = itself_stops reason.Index line (stop.Index line) refl (λ l e. cc) t
+  stops_task is first (halt.Own (stop.LogFull line)) t = itself_stops reason.LogFull line (stop.LogFull line) refl (λ l e. cc) t
   stops_task is first (halt.Region path why) t = below_stops is first path why t
-  stops_task is first (halt.Tasks line) t = tasks_stop line t
-  stops_task is first (halt.Trouble trouble) t = trouble_stops (stop.Trouble trouble) refl (λ l e. cc)
+  stops_task is first (halt.Own (stop.Tasks line)) t = tasks_stop line t
+  stops_task is first (halt.Own (stop.Trouble trouble)) t = trouble_stops (stop.Trouble trouble) refl (λ l e. cc)

@@ -21,7 +21,7 @@ use Rattle.lane_runner.proofs.Halting.{halt_none}
 use Rattle.region_runner.specs.LastPhase.{IsLast}
 use Rattle.region_runner.specs.Crew.{CrewValue, world_of}
 use Rattle.region_runner.specs.Ground.{GroundValue, IsOurLane}
-use Rattle.lane_runner.specs.Lane.{LaneValue, answer_of, progress}
+use Rattle.lane_runner.specs.Lane.{LaneValue, answer_due, progress}
 use Rattle.region_runner.specs.Ran.{TaskGoes, task_part}
 use Rattle.region_runner.specs.Stands.{AllGo, HasLastBar, HasPassed, IsFresh, LaneStands, MayGoOn, TeamRan, TeamStands}
 use Rattle.lane_runner.specs.declared.stop.Halt.{Halt}
@@ -37,7 +37,7 @@ stands_first crew lane m f = record {
   last = progress m;
   up = record { buffer = refl; tally = refl; done = refl };
   goes =
-      subst (λ (h : Option Halt). TaskGoes (world_of crew lane) (task_part (site (world_of crew lane)) [] None) m.locals m.locals (progress m) (progress m) [] (answer_of h)) (sym (halt_none m f.going))
+      subst (λ (h : Option Halt). TaskGoes (world_of crew lane) (task_part (site (world_of crew lane)) [] None) m.locals m.locals (progress m) (progress m) [] (answer_due h)) (sym (halt_none m f.going))
       (ran_none (world_of crew lane) (site (world_of crew lane)) m.locals (progress m) f.may.unrefused);
   log = log_still m.buffer;
   loops = λ goes. omega arith;

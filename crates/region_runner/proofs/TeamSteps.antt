@@ -16,15 +16,15 @@ use Rattle.history_model.specs.Work.{Work, Phases, NoPhase, Phase, lane_works, t
 use Rattle.history_model.specs.Sound.{PassAllBarriers}
 use Rattle.history_model.specs.Joined.{LastIsEnd, PhasesEnd}
 use Rattle.history_laws.proofs.EndedLanes.{ends_behind}
-use Rattle.history_laws.proofs.MetBarriers.{barriers_both}
+use Rattle.race_model.proofs.Counted.{barriers_both}
 use Rattle.lane_runner.specs.Going.{IsSameLog, site}
 use Rattle.lane_runner.proofs.Bodies.{log_later}
 use Rattle.region_runner.specs.LastPhase.{IsLast, WentOn}
 use Rattle.region_runner.specs.Crew.{CrewValue, world_of}
 use Rattle.region_runner.specs.Hands.{joined_with, lane_hand, parted_for}
-use Rattle.lane_runner.specs.Lane.{LaneValue, answer_of, halt_in, hand_view, progress, with_hand}
+use Rattle.lane_runner.specs.Lane.{LaneValue, answer_due, halt_in, hand_view, progress, with_hand}
 use Rattle.region_runner.specs.Ran.{TaskGoes, task_part}
-use Rattle.region_runner.specs.Stands.{AllGo, LaneStands, MayStep, RanPhase, TeamStands, put_in}
+use Rattle.region_runner.specs.Stands.{AllGo, LaneStands, MayStep, RanPhase, TeamStands, records_put}
 use Rattle.region_runner.specs.Team.{DidPhases, DidWork, team_of_works}
 use Rattle.region_runner.proofs.Standing.{StepsOn, bars_after, drawn_after, lane_steps}
 use Rattle.region_runner.proofs.TeamPhases.{Works, choose, lane_works_more, phase_did, phases_did_more, phases_end, team_ends, team_passes, views_from}
@@ -111,8 +111,8 @@ module _ (crew : CrewValue) (items : List Item) (end : Option ℕ) (old home new
       done = ap (λ (m : LaneValue). m.done) (same k less);
     };
     goes =
-        subst (λ (m : LaneValue). TaskGoes (world_of crew k) (task_part (site (world_of crew k)) (done ++ items ∷ []) end) (start k).locals m.locals (progress (start k)) (progress (mid k)) (lane_works k (then_phases phases later)) (answer_of (halt_in m))) (sym (same k less))
-        (subst (λ (ws : List Work). TaskGoes (world_of crew k) (task_part (site (world_of crew k)) (done ++ items ∷ []) end) (start k).locals (mid k).locals (progress (start k)) (progress (mid k)) ws (answer_of (halt_in (mid k))))
+        subst (λ (m : LaneValue). TaskGoes (world_of crew k) (task_part (site (world_of crew k)) (done ++ items ∷ []) end) (start k).locals m.locals (progress (start k)) (progress (mid k)) (lane_works k (then_phases phases later)) (answer_due (halt_in m))) (sym (same k less))
+        (subst (λ (ws : List Work). TaskGoes (world_of crew k) (task_part (site (world_of crew k)) (done ++ items ∷ []) end) (start k).locals (mid k).locals (progress (start k)) (progress (mid k)) ws (answer_due (halt_in (mid k))))
         (ap (λ (work : Work). lane_works k phases ++ work ∷ []) (works.each k less).1 ∙ sym (lane_works_more crew.span k phases works.work less))
         (works.each k less).0.goes);
     log =
@@ -135,10 +135,10 @@ module _ (crew : CrewValue) (items : List Item) (end : Option ℕ) (old home new
     passes = λ goes.
         let first = (stands.lanes k d less).passes (going k d (in_prev k less)) in
         let mine = step_of.passes (sym (stopped_same k less) ∙ goes) in
-        let all = ap (λ (rs : List Record). barrier_count rs) put_more ∙ barriers_both (put_in k phases) (work_records step_of.work) in
+        let all = ap (λ (rs : List Record). barrier_count rs) put_more ∙ barriers_both (records_put k phases) (work_records step_of.work) in
         let bars = bars_after done items in
         omega (arith, first, mine, all, bars);
-    ends = λ line is_line goes. subst (λ (rs : List Record). LastIsEnd rs) (sym put_more) (ends_behind (put_in k phases) (work_records step_of.work) (step_of.ends line is_line (sym (stopped_same k less) ∙ goes)));
+    ends = λ line is_line goes. subst (λ (rs : List Record). LastIsEnd rs) (sym put_more) (ends_behind (records_put k phases) (work_records step_of.work) (step_of.ends line is_line (sym (stopped_same k less) ∙ goes)));
     behind = λ h is. record {
       earlier = done;
       last = items;
@@ -146,7 +146,7 @@ module _ (crew : CrewValue) (items : List Item) (end : Option ℕ) (old home new
       count =
           let first = (stands.lanes k d less).passes (going k d (in_prev k less)) in
           let mine = step_of.short h (sym (ap halt_in (same k less)) ∙ is) in
-          let all = ap (λ (rs : List Record). barrier_count rs) put_more ∙ barriers_both (put_in k phases) (work_records step_of.work) in
+          let all = ap (λ (rs : List Record). barrier_count rs) put_more ∙ barriers_both (records_put k phases) (work_records step_of.work) in
           omega (arith, first, mine, all);
     };
   }
@@ -154,12 +154,12 @@ module _ (crew : CrewValue) (items : List Item) (end : Option ℕ) (old home new
       step_of : Steps k
       step_of = (works.each k less).0
 
-      put_more : put_in k (then_phases phases later) ≡ put_in k phases ++ work_records step_of.work
+      put_more : records_put k (then_phases phases later) ≡ records_put k phases ++ work_records step_of.work
       put_more =
           ap (λ (ws : List Work). flat_map work_records ws) (lane_works_more crew.span k phases works.work less)
           ∙ flat_map-append work_records (lane_works k phases) (works.work k ∷ [])
-          ∙ ap (λ (rs : List Record). put_in k phases ++ rs) (append-nil (work_records (works.work k)))
-          ∙ ap (λ (work : Work). put_in k phases ++ work_records work) (sym (works.each k less).1)
+          ∙ ap (λ (rs : List Record). records_put k phases ++ rs) (append-nil (work_records (works.work k)))
+          ∙ ap (λ (work : Work). records_put k phases ++ work_records work) (sym (works.each k less).1)
 
   pub team_steps : TeamSteps crew items end old new before after done
   team_steps = record {

@@ -4,13 +4,15 @@ use Rattle.std.specs.Prelude.{reverse}
 use Rattle.std.specs.List.{flat_map}
 use Rattle.std.proofs.lemmas.List.{append-nil, reverse-reverse}
 use Rattle.std.proofs.lemmas.List.Elements.{All-nil, All-cons}
+use Rattle.log_format.specs.Limit.{record_limit}
 use Rattle.log_format.specs.declared.record.Record.{Record}
 use Rattle.race_model.specs.History.{release}
 use Rattle.kernel_syntax.specs.Program.{Program}
-use Rattle.kernel_model.specs.State as model
+use Rattle.kernel_model.specs.declared.stop.StopWhy.{StopWhy}
+use Rattle.kernel_model.specs.declared.stop.StopWhy.TheVariants as reason
 use Rattle.kernel_model.specs.State.{State, Fork, Outcome, and_then, after, state_of, reads_of, chunks_of}
 use Rattle.kernel_model.specs.Growth.{Grows}
-use Rattle.kernel_model.specs.Trace.{Start, Stopped, log_limit, task}
+use Rattle.kernel_model.specs.Trace.{Start, Stopped, task}
 use Rattle.kernel_model.specs.Folder.{own_trace, IsTracedTo}
 use Rattle.kernel_model.specs.Effect.{Finish, Returned, Halted, Makes, state_with}
 use Rattle.kernel_model.proofs.Effects.{makes-halt, makes-same}
@@ -19,6 +21,7 @@ use Rattle.history_model.specs.Work.{Work, Rest, Put, RegionWork, Phases, NoPhas
 use Rattle.history_model.proofs.Parts.{then_records, then_regions}
 use Rattle.execution_model.specs.Execution.{BeginsTrace}
 use Rattle.execution_model.specs.Runs.{AreReleased, RunsTask, RunsRegions, put_records, works_log}
+use Rattle.lane_runner.specs.declared.stop.Stop.TheVariants as stop
 use Rattle.lane_runner.specs.declared.stop.Halt.{Halt}
 use Rattle.lane_runner.specs.declared.stop.Halt.TheVariants as halt
 use Rattle.lane_runner.specs.World.{WorldValue}
@@ -58,13 +61,13 @@ pub record TracesFirst (program : Program) (start : Start) (records : List Recor
   pub forks_are : (own_trace program start records).forks ≡ forks ++ later
 
 module _ (program : Program) (start : Start) where
-  pub begun_trace : (records : List Record) (forks : List Fork) → BeginsPart (parts program start) start.slots log_limit records forks → TracesFirst program start records forks
+  pub begun_trace : (records : List Record) (forks : List Fork) → BeginsPart (parts program start) start.slots record_limit records forks → TracesFirst program start records forks
   unfolding task
   begun_trace records forks b =
       let from = b.begins [] [] [] [] in
-      let plain : (task program start (reads_of records) (chunks_of records)) ≡ parts program start (state_with start.slots [] [] log_limit (reads_of records ++ []) (chunks_of records ++ [])) =
-      ap (λ l. parts program start (state_with start.slots [] [] log_limit l (chunks_of records))) (sym (append-nil (reads_of records)))
-      ∙ ap (λ l. parts program start (state_with start.slots [] [] log_limit (reads_of records ++ []) l)) (sym (append-nil (chunks_of records))) in
+      let plain : (task program start (reads_of records) (chunks_of records)) ≡ parts program start (state_with start.slots [] [] record_limit (reads_of records ++ []) (chunks_of records ++ [])) =
+      ap (λ l. parts program start (state_with start.slots [] [] record_limit l (chunks_of records))) (sym (append-nil (reads_of records)))
+      ∙ ap (λ l. parts program start (state_with start.slots [] [] record_limit (reads_of records ++ []) l)) (sym (append-nil (chunks_of records))) in
       record {
         begun = record { rest = from.more; begins = ap (λ (o : Outcome (Unit {0})). (state_of o).records) plain ∙ from.records_are };
         later = from.later;
@@ -82,20 +85,20 @@ module _ (program : Program) (start : Start) where
   -- a task that stands at a part of its trace
   module _ (w : WorldValue) (same : program.arrays ≡ w.arrays) (part rest : State → Outcome (Unit {0})) (grows : (s : State) → Grows s (state_of (rest s)))
       (is : (s : State) → parts program start s ≡ after (part s) rest) (slots' : List ℤ) (old new : Progress) (none : old.buffer.count ≡ 0) (works : List Work) where
-    room_is : log_limit - old.buffer.count ≡ log_limit
+    room_is : record_limit - old.buffer.count ≡ record_limit
     room_is = omega (arith, none)
 
-    whole_begins : (added : List Record) (forks : List Fork) → BeginsPart part start.slots (log_limit - old.buffer.count) added forks → BeginsPart (parts program start) start.slots log_limit added forks
+    whole_begins : (added : List Record) (forks : List Fork) → BeginsPart part start.slots (record_limit - old.buffer.count) added forks → BeginsPart (parts program start) start.slots record_limit added forks
     whole_begins added forks b =
-        begins_same (λ s. and_then (part s) (λ a t. rest t)) (parts program start) start.slots log_limit added forks (λ s. is s ∙ after_is (part s) rest)
-        (begins_first part (λ a t. rest t) start.slots log_limit added forks (λ a s. grows s) (subst (λ (room : ℕ). BeginsPart part start.slots room added forks) room_is b))
+        begins_same (λ s. and_then (part s) (λ a t. rest t)) (parts program start) start.slots record_limit added forks (λ s. is s ∙ after_is (part s) rest)
+        (begins_first part (λ a t. rest t) start.slots record_limit added forks (λ a s. grows s) (subst (λ (room : ℕ). BeginsPart part start.slots room added forks) room_is b))
 
     runs_ran : (finish : Finish (Unit {0})) → TaskRan w part start.slots slots' old new works finish → RunsTask program start works
     runs_ran finish t =
         runs_first works t.own t.forks
         (begun_trace (log_of (in_one works)) t.forks
         (whole_begins (log_of (in_one works)) t.forks
-        (begins_made part start.slots (log_limit - old.buffer.count) (effect_of slots' (in_one works) t.forks) finish t.makes)))
+        (begins_made part start.slots (record_limit - old.buffer.count) (effect_of slots' (in_one works) t.forks) finish t.makes)))
         t.released (t.regions program same)
 
     pub traces_begun : (cause : Cause) (t : TaskBegan w part start.slots old new works cause) → TracesFirst program start (log_of (in_one works)) t.forks
@@ -106,18 +109,18 @@ module _ (program : Program) (start : Start) where
 
     pub runs_goes : (r : Result (Unit {0}) Halt) → TaskGoes w part start.slots slots' old new works r → RunsTask program start works
     runs_goes (Ok u) t = runs_ran (Returned tt) t
-    runs_goes (Err (halt.DivZero line)) t = runs_ran (Halted model.DivZero line) t
-    runs_goes (Err (halt.Index line)) t = runs_ran (Halted model.Index line) t
-    runs_goes (Err (halt.LogFull line)) t = runs_ran (Halted model.LogFull line) t
+    runs_goes (Err (halt.Own (stop.DivZero line))) t = runs_ran (Halted reason.DivZero line) t
+    runs_goes (Err (halt.Own (stop.Index line))) t = runs_ran (Halted reason.Index line) t
+    runs_goes (Err (halt.Own (stop.LogFull line))) t = runs_ran (Halted reason.LogFull line) t
     runs_goes (Err (halt.Region path why)) t = runs_begun (AtRegion path why) t
-    runs_goes (Err (halt.Tasks line)) t = runs_begun (AtTasks line) t
-    runs_goes (Err (halt.Trouble trouble)) t = runs_begun AtLog t.0
+    runs_goes (Err (halt.Own (stop.Tasks line))) t = runs_begun (AtTasks line) t
+    runs_goes (Err (halt.Own (stop.Trouble trouble))) t = runs_begun AtLog t.0
 
     -- a task that stopped: its trace ends so
-    pub stopped_trace : (why : model.Stop) (line : ℕ) → TaskRan w part start.slots slots' old new works (Halted why line) → IsTracedTo program start (works_log works) (Stopped why line)
+    pub stopped_trace : (why : StopWhy) (line : ℕ) → TaskRan w part start.slots slots' old new works (Halted why line) → IsTracedTo program start (works_log works) (Stopped why line)
     stopped_trace why line t =
-        let halted = makes-same (λ s. and_then (part s) (λ a t. rest t)) (parts program start) start.slots log_limit (effect_of slots' (in_one works) t.forks) (Halted why line) (λ s. is s ∙ after_is (part s) rest)
-        (makes-halt part (λ a t. rest t) start.slots log_limit (effect_of slots' (in_one works) t.forks) why line
+        let halted = makes-same (λ s. and_then (part s) (λ a t. rest t)) (parts program start) start.slots record_limit (effect_of slots' (in_one works) t.forks) (Halted why line) (λ s. is s ∙ after_is (part s) rest)
+        (makes-halt part (λ a t. rest t) start.slots record_limit (effect_of slots' (in_one works) t.forks) why line
         (subst (λ (room : ℕ). Makes part start.slots room (effect_of slots' (in_one works) t.forks) (Halted why line)) room_is t.makes)) in
         let trace = own_trace-is program start (effect_of slots' (in_one works) t.forks) (Halted why line) halted in
         subst (λ (rs : List Record). IsTracedTo program start rs (Stopped why line)) (one_log works)

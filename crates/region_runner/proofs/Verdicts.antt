@@ -10,7 +10,7 @@ use Rattle.lane_runner.specs.declared.stop.Stop.TheVariants as stop
 use Rattle.lane_runner.specs.Handed.{MaybeStop}
 use Rattle.region_runner.specs.declared.gathering.Verdict.{Verdict}
 use Rattle.region_runner.specs.declared.gathering.Verdict.TheVariants.{Ended, Refused, Halted, Wanted}
-use Rattle.region_runner.specs.Gathering.{ClosedValue, HasMemory, IsAnswer, IsVerdict, WantsMemory, answer_for, closed_stop, lane_stop, urgency_of}
+use Rattle.region_runner.specs.Gathering.{ClosedValue, HasMemory, IsAnswer, IsGathered, WantsMemory, answer_for, closed_stop, lane_stop, urgency_of}
 
 -- ---- one lane
 
@@ -18,19 +18,19 @@ module _ (c : ClosedValue) (kept : Bool) where
   no_want : (at : List Step) (why : Stop) → why ≢ stop.Trouble Memory → closed_stop c ≡ Some (at, why) → WantsMemory (closed_stop c) → ⊥
   no_want at why other is wants = other (subst (λ (s : MaybeStop). WantsMemory s) is wants)
 
-  one_memory : (v : Verdict) → IsVerdict c.path c.halt c.refused kept v → urgency_of v < 3 → HasMemory c kept
+  one_memory : (v : Verdict) → IsGathered c.path c.halt c.refused kept v → urgency_of v < 3 → HasMemory c kept
   one_memory Ended is less = (λ wants. subst (λ (s : MaybeStop). WantsMemory s) (ap (λ (h : Option Halt). lane_stop c.path h c.refused) is.0 ∙ ap (λ (t : Option Trouble). lane_stop c.path None t) is.1) wants, is.2)
   one_memory (Refused at why) is less = (no_want at why is.1 is.3, is.2)
   one_memory (Halted at why) is less = (no_want at why is.1 is.3, is.2)
   one_memory (Wanted at) is less = absurd (omega arith)
 
-  one_going : (v : Verdict) → IsVerdict c.path c.halt c.refused kept v → urgency_of v < 2 → c.halt ≡ None
+  one_going : (v : Verdict) → IsGathered c.path c.halt c.refused kept v → urgency_of v < 2 → c.halt ≡ None
   one_going Ended is less = is.0
   one_going (Refused at why) is less = is.0
   one_going (Halted at why) is less = absurd (omega arith)
   one_going (Wanted at) is less = absurd (omega arith)
 
-  one_unrefused : (v : Verdict) → IsVerdict c.path c.halt c.refused kept v → urgency_of v < 1 → c.refused ≡ None
+  one_unrefused : (v : Verdict) → IsGathered c.path c.halt c.refused kept v → urgency_of v < 1 → c.refused ≡ None
   one_unrefused Ended is less = is.1
   one_unrefused (Refused at why) is less = absurd (omega arith)
   one_unrefused (Halted at why) is less = absurd (omega arith)
@@ -99,7 +99,7 @@ module _ (n : ℕ) (lanes : ℕ → ClosedValue) (kept : ℕ → Bool) where
   unrefused_of (Wanted at) a less = absurd (omega arith)
 
   -- one more, which goes before them
-  pub goes_first : (v w : Verdict) → Answered n lanes kept v → IsVerdict (lanes n).path (lanes n).halt (lanes n).refused (kept n) w → urgency_of v < urgency_of w → Answered (n + 1) lanes kept w
+  pub goes_first : (v w : Verdict) → Answered n lanes kept v → IsGathered (lanes n).path (lanes n).halt (lanes n).refused (kept n) w → urgency_of v < urgency_of w → Answered (n + 1) lanes kept w
   goes_first v Ended a is less = absurd (omega arith)
   goes_first v (Refused at why) a is less = record {
     lane = n;
@@ -120,7 +120,7 @@ module _ (n : ℕ) (lanes : ℕ → ClosedValue) (kept : ℕ → Bool) where
   goes_first v (Wanted at) a is less = record { lane = n; within = omega arith; stops = is; before = memory_of v a (omega arith) }
 
   -- one more, which doesn't
-  pub goes_after : (v w : Verdict) → Answered n lanes kept v → IsVerdict (lanes n).path (lanes n).halt (lanes n).refused (kept n) w → urgency_of w ≤ urgency_of v → Answered (n + 1) lanes kept v
+  pub goes_after : (v w : Verdict) → Answered n lanes kept v → IsGathered (lanes n).path (lanes n).halt (lanes n).refused (kept n) w → urgency_of w ≤ urgency_of v → Answered (n + 1) lanes kept v
   goes_after Ended w a is most = record {
     memory = below_more (λ j. HasMemory (lanes j) (kept j)) n a.memory (one_memory (lanes n) (kept n) w is (omega arith));
     going = below_more (λ j. (lanes j).halt ≡ None) n a.going (one_going (lanes n) (kept n) w is (omega arith));

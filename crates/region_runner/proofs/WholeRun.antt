@@ -45,12 +45,12 @@ use Rattle.execution_laws.proofs.Whole.{execution}
 use Rattle.lane_runner.specs.declared.stop.Stop.{Stop}
 use Rattle.lane_runner.specs.declared.stop.Stop.TheVariants as stop
 use Rattle.lane_runner.specs.Forking.{Answer, stop_in}
-use Rattle.lane_runner.specs.Handed.{AreEntriesOf, Entry, IsEntryOf, Keeps, LogPlace, TellStop, entries_of, entry_of}
+use Rattle.lane_runner.specs.Handed.{AreEntriesOf, HandedEntry, IsEntryOf, KeepsRecords, LogPlace, TellStop, entries_of, entry_of}
 use Rattle.lane_runner.specs.Stopping.{LastIsRegionAt}
 use Rattle.execution_model.specs.Elements.{HaveOwnWords, element_address, element_word, layout_of}
 use Rattle.lane_runner.proofs.HandedTasks.{tree_listed}
 use Rattle.execution_model.proofs.OwnWords.{bounded_widths, own_words}
-use Rattle.region_runner.specs.Answer.{AreFaultless, EndsTask, HasRun, HasStoppedRun, IsLeast, IsRun, LanesEnd, StopsIn, whole_log, whole_outline}
+use Rattle.region_runner.specs.Answer.{AreFaultless, EndsTask, HasRun, HasStoppedRun, IsLeast, IsEndedRun, LanesEnd, StopsIn, whole_handed, whole_outline}
 use Rattle.execution_laws.specs.Nesting.{NestsWithin}
 use Rattle.region_runner.specs.Gathering.{ClosedValue}
 use Rattle.region_runner.specs.Root.{IsSettled, RanRoot, RootRests, StopsRoot}
@@ -105,11 +105,11 @@ told_whole (Some t) (Some r) records size same all =
     let has = all t refl in
     λ i. Some (record { bytes = has.bytes i; lengths = has.lengths i })
 
-kept_whole : (text : Option Text) (path : List Step) (records : List Record) (size faults : ℕ) → WhereTold text (Keeps None path records size faults) → WhereTold text (HasAll (log_header FORMAT) records size)
+kept_whole : (text : Option Text) (path : List Step) (records : List Record) (size faults : ℕ) → WhereTold text (KeepsRecords None path records size faults) → WhereTold text (HasAll (log_header FORMAT) records size)
 kept_whole text path records size faults keeps t told = by (keeps t told) where
-  by : Keeps None path records size faults t → HasAll (log_header FORMAT) records size t
-  by (Keeps.whole all) = all
-  by (Keeps.torn lacks prefix) = absurd lacks
+  by : KeepsRecords None path records size faults t → HasAll (log_header FORMAT) records size t
+  by (KeepsRecords.whole all) = all
+  by (KeepsRecords.torn lacks prefix) = absurd lacks
 
 module _ {T : Type 0} (seen : Ghosts T) (dir : List ℕ) (size : ℕ) (root : Option Text) where
   abbrev place : LogPlace
@@ -118,35 +118,35 @@ module _ {T : Type 0} (seen : Ghosts T) (dir : List ℕ) (size : ℕ) (root : Op
   abbrev handed : ClosedLog T → HandedLog
   handed = handed_log seen.dir seen.path seen.text
 
-  log_whole : (task : TaskLog) (item : ClosedLog T) → IsEntryOf place None task.path task.records (entry_of seen item) → handed item ≡ whole_log dir size root task
+  log_whole : (task : TaskLog) (item : ClosedLog T) → IsEntryOf place None task.path task.records (entry_of seen item) → handed item ≡ whole_handed dir size root task
   log_whole task item is =
       let told = told_whole (seen.text item.log) root task.records size is.tells (kept_whole (seen.text item.log) task.path task.records size (seen.faults item.log) is.keeps) in
       λ i. record { task = is.task i; dir = is.dir i; path = is.own i; told = told i; count = is.count i }
 
-  all_whole : (tasks : Trace) (items : List (ClosedLog T)) (es : List Entry) → es ≡ entries_of seen items → AreEntriesOf place None tasks es → map handed items ≡ map (whole_log dir size root) tasks
+  all_whole : (tasks : Trace) (items : List (ClosedLog T)) (es : List HandedEntry) → es ≡ entries_of seen items → AreEntriesOf place None tasks es → map handed items ≡ map (whole_handed dir size root) tasks
   all_whole _ [] _ same AreEntriesOf.no_task = refl
   all_whole _ (item ∷ items) _ same AreEntriesOf.no_task = absurd cc
   all_whole _ [] _ same (AreEntriesOf.given task tasks e es is rest) = absurd cc
   all_whole _ (item ∷ items) _ same (AreEntriesOf.given task tasks e es is rest) =
       let first : e ≡ entry_of seen item = cc in
       let others : es ≡ entries_of seen items = cc in
-      ap (λ (log : HandedLog). log ∷ map handed items) (log_whole task item (subst (λ (x : Entry). IsEntryOf place None task.path task.records x) first is))
-      ∙ ap (λ (logs : List HandedLog). whole_log dir size root task ∷ logs) (all_whole tasks items es others rest)
+      ap (λ (log : HandedLog). log ∷ map handed items) (log_whole task item (subst (λ (x : HandedEntry). IsEntryOf place None task.path task.records x) first is))
+      ∙ ap (λ (logs : List HandedLog). whole_handed dir size root task ∷ logs) (all_whole tasks items es others rest)
   all_whole _ items _ same (AreEntriesOf.missing task tasks es none rest) = absurd none
 
   -- none counts a fault
-  all_faultless : (tasks : Trace) (items : List (ClosedLog T)) (es : List Entry) → es ≡ entries_of seen items → AreEntriesOf place None tasks es → AreFaultless seen.faults items
+  all_faultless : (tasks : Trace) (items : List (ClosedLog T)) (es : List HandedEntry) → es ≡ entries_of seen items → AreEntriesOf place None tasks es → AreFaultless seen.faults items
   all_faultless _ [] _ same AreEntriesOf.no_task = All-nil (λ (x : ClosedLog T). seen.faults x.log ≡ 0)
   all_faultless _ (item ∷ items) _ same AreEntriesOf.no_task = absurd cc
   all_faultless _ [] _ same (AreEntriesOf.given task tasks e es is rest) = absurd cc
   all_faultless _ (item ∷ items) _ same (AreEntriesOf.given task tasks e es is rest) =
       let first : e ≡ entry_of seen item = cc in
       let others : es ≡ entries_of seen items = cc in
-      All-cons (λ (x : ClosedLog T). seen.faults x.log ≡ 0) item items (sym (ap (λ (x : Entry). x.faults) first) ∙ is.faultless refl) (all_faultless tasks items es others rest)
+      All-cons (λ (x : ClosedLog T). seen.faults x.log ≡ 0) item items (sym (ap (λ (x : HandedEntry). x.faults) first) ∙ is.faultless refl) (all_faultless tasks items es others rest)
   all_faultless _ items _ same (AreEntriesOf.missing task tasks es none rest) = absurd none
 
 -- as many as there are tasks
-as_many : (at : LogPlace) (tasks : Trace) (es : List Entry) → AreEntriesOf at None tasks es → length tasks ≡ length es
+as_many : (at : LogPlace) (tasks : Trace) (es : List HandedEntry) → AreEntriesOf at None tasks es → length tasks ≡ length es
 as_many at _ _ AreEntriesOf.no_task = refl
 as_many at _ _ (AreEntriesOf.given task tasks e es is rest) = ap suc (as_many at tasks es rest)
 as_many at _ _ (AreEntriesOf.missing task tasks es none rest) = absurd none
@@ -157,7 +157,7 @@ as_many at _ _ (AreEntriesOf.missing task tasks es none rest) = absurd none
 no_table : TableId
 no_table = record { words = 0; slots = 0; views_name = 0; atom = 0; block = 0; offset = 0; slot_names = [] }
 
-module _ (program : Program) (lawful : IsLawful program) (dir : List ℕ) (size taken : ℕ) (root : Option Text) (table : TableId) (hand new : HandValue View) (closed : Option ClosedValue) (logs : List Entry) (r : Answer) (memory words : List ℕ)
+module _ (program : Program) (lawful : IsLawful program) (dir : List ℕ) (size taken : ℕ) (root : Option Text) (table : TableId) (hand new : HandValue View) (closed : Option ClosedValue) (logs : List HandedEntry) (r : Answer) (memory words : List ℕ)
     (same_size : taken ≡ size) (first : hand ≡ hand_with table (newcomer [])) (ran : RanRoot program (record { dir = dir; size = taken; tells = is_some root }) hand new closed) (settled : IsSettled closed logs r) (few : length memory ≤ elements program.arrays)
     (history : HasHistory new.view.items memory) (fitted : AreFitted (layout_of program.arrays) memory words) where
   abbrev own_place : LogPlace
@@ -241,7 +241,7 @@ module _ (program : Program) (lawful : IsLawful program) (dir : List ℕ) (size 
     few_tasks : length tasks ≤ max_rows
     few_tasks = let count = as_many own_place tasks logs ended_entries in let most = rests.few is in omega (arith, count, most)
 
-    is_run : IsRun program tasks words
+    is_run : IsEndedRun program tasks words
     is_run =
         let whole = whole_folder program tasks (element_address program.arrays) words executed (are_listed 4 work nests) root_ended in
         record { traced = whole; rules = folder_keeps program lawful tasks whole (are_listed 4 work nests) few_tasks; execution = executed; all = all }

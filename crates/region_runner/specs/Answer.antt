@@ -25,7 +25,7 @@ use Rattle.history_model.specs.Joined.{LastIsEnd}
 use Rattle.execution_model.specs.Execution.{IsExecution}
 use Rattle.lane_runner.specs.declared.stop.Stop.{Stop}
 use Rattle.lane_runner.specs.declared.stop.Stop.TheVariants as stop
-use Rattle.lane_runner.specs.Handed.{AreEntriesOf, Entry, TellStop, entries_of}
+use Rattle.lane_runner.specs.Handed.{AreEntriesOf, HandedEntry, TellStop, entries_of}
 use Rattle.lane_runner.specs.Stopping.{GoesFurther, IsNoTrouble, LastIsRegionAt, ending_for}
 use Rattle.execution_model.specs.Elements.{element_address}
 use Rattle.region_runner.specs.declared.run.Finished.{Finished}
@@ -41,8 +41,8 @@ abbrev pub whole_outline : ℕ → List Record → Outline
 whole_outline size records = record { bytes = log_bytes (log_header FORMAT) records; lengths = cut (length records) size }
 
 -- the whole log of a task, in the folder `dir`; it tells its content where the root's log, `root`, does
-abbrev pub whole_log : List ℕ → ℕ → Option Text → TaskLog → HandedLog
-whole_log dir size root task = record {
+abbrev pub whole_handed : List ℕ → ℕ → Option Text → TaskLog → HandedLog
+whole_handed dir size root task = record {
   task = task.path;
   dir = dir;
   path = task.path;
@@ -52,7 +52,7 @@ whole_log dir size root task = record {
 
 -- The tasks of a run that ended are those of the kernel, each with its trace; their logs keep the rules of a folder; and their accesses
 -- and mutex steps have one legal history that respects happens-before and ends in these words, one for each element.
-pub record IsRun (program : Program) (tasks : Trace) (words : List ℕ) : Type 0 where
+pub record IsEndedRun (program : Program) (tasks : Trace) (words : List ℕ) : Type 0 where
   pub traced : IsTracedFolder program tasks
   pub rules : KeepsRules FORMAT tasks
   pub execution : IsExecution program tasks (element_address program.arrays) words
@@ -61,8 +61,8 @@ pub record IsRun (program : Program) (tasks : Trace) (words : List ℕ) : Type 0
 -- the logs are those of a whole run, in the order of their paths
 pub record HasRun (program : Program) (dir : List ℕ) (size : ℕ) (root : Option Text) (logs : List HandedLog) (words : List ℕ) : Type 0 where
   pub tasks : Trace
-  pub run : IsRun program tasks words
-  pub logs_are : logs ≡ map (whole_log dir size root) tasks
+  pub run : IsEndedRun program tasks words
+  pub logs_are : logs ≡ map (whole_handed dir size root) tasks
   pub few : length tasks ≤ max_rows
 
 -- none of these logs counts a fault
@@ -97,7 +97,7 @@ pub record StopsIn (program : Program) (tasks : Trace) (path : List Step) (why :
 -- The logs of a run that stopped so in the task of this path. They are those of an execution of the kernel, in the order of their paths:
 -- each with all its records, or a prefix of them, where it may lack some; one may be missing where no memory was found. The words
 -- are the last ones of its history, one for each element; there are none where no memory was found for them.
-pub record HasStoppedRun (program : Program) (dir : List ℕ) (size : ℕ) (root : Option Text) (logs : List Entry) (path : List Step) (why : Stop) (words : List ℕ) : Type 0 where
+pub record HasStoppedRun (program : Program) (dir : List ℕ) (size : ℕ) (root : Option Text) (logs : List HandedEntry) (path : List Step) (why : Stop) (words : List ℕ) : Type 0 where
   pub tasks : Trace
   pub execution : IsExecution program tasks (element_address program.arrays) words
   pub all : (length words ≡ elements program.arrays) ⊎ ((why ≡ stop.Trouble Memory) × (words ≡ []))

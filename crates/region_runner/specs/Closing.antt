@@ -7,7 +7,7 @@ use Rattle.sw_base.specs.Environment.{Text, WhereTold}
 use Rattle.log_format.specs.declared.record.Record.{Record}
 use Rattle.event_buffer.specs.Buffered.{Buffered}
 use Rattle.event_buffer.specs.Logged.{HoldsRecords, HasAll, KeepsPrefix}
-use Rattle.lane_runner.specs.Handed.{Entry}
+use Rattle.lane_runner.specs.Handed.{HandedEntry}
 
 -- what a log that is closed has of what was put
 abbrev pub HasTaken : Option Trouble → List ℕ → List Record → ℕ → Text → Type 0
@@ -15,7 +15,7 @@ HasTaken None header records size text = HasAll header records size text
 HasTaken (Some trouble) header records size text = KeepsPrefix header records size text
 
 -- The log of the task of this path was closed, and refused so, if it did, what waited in this buffer before it, or a call before.
-pub record IsClosedAs (e : Entry) (refused : Option Trouble) (path : List Step) (b : Buffered) : Type 0 where
+pub record IsClosedAs (e : HandedEntry) (refused : Option Trouble) (path : List Step) (b : Buffered) : Type 0 where
   pub task : e.task ≡ path
   pub dir : e.dir ≡ b.dir
   pub own : e.path ≡ b.path

@@ -1,6 +1,7 @@
 -- What the lanes of a team gave when their logs were closed, and what their region answers for it.
 use Rattle.std.specs.Prelude.{◌≡◌, ◌≢◌, ◌⊎◌, ℕ, ◌<◌, ◌≤◌, List, [], ◌∷◌, ◌++◌, length, Bool, true, false, if◌then◌else◌, Option, Some, None, Ok, Err, is_some}
 use Rattle.std.specs.List.{flat_map}
+use Rattle.log_format.specs.Limit.{task_limit}
 use Rattle.sw_base.specs.declared.path.Step.{Step}
 use Rattle.sw_base.specs.declared.trouble.Trouble.{Trouble}
 use Rattle.sw_base.specs.declared.trouble.Trouble.TheVariants.{Failed, Memory}
@@ -17,7 +18,7 @@ use Rattle.lane_runner.specs.declared.stop.Halt.TheVariants as halt
 use Rattle.lane_runner.specs.declared.stop.Stop.{Stop}
 use Rattle.lane_runner.specs.declared.stop.Stop.TheVariants as stop
 use Rattle.lane_runner.specs.Forking.{Answer}
-use Rattle.lane_runner.specs.Handed.{Entry, HandsOn, LogPlace, MaybeStop, task_limit}
+use Rattle.lane_runner.specs.Handed.{HandedEntry, HandsOn, LogPlace, MaybeStop}
 use Rattle.lane_runner.specs.Lane.{stop_of}
 use Rattle.region_runner.specs.declared.gathering.Verdict.{Verdict}
 use Rattle.region_runner.specs.declared.gathering.Verdict.TheVariants.{Ended, Refused, Halted, Wanted}
@@ -28,8 +29,8 @@ use Rattle.region_runner.specs.Team.{handed_by}
 -- waited, if it did, and its hand on the counters.
 pub record ClosedValue : Type 0 where
   pub path : List Step
-  pub own : Entry
-  pub below : List Entry
+  pub own : HandedEntry
+  pub below : List HandedEntry
   pub halt : Option Halt
   pub refused : Option Trouble
   pub draws : HandValue Share
@@ -54,8 +55,8 @@ pub record LaneGave (place : LogPlace) (works : List Work) (c : ClosedValue) : T
   pub failed : c.refused ≡ Some Failed → 0 < c.own.faults
   pub faultless : c.refused ≡ None → c.own.faults ≡ 0
   pub hands : HandsOn place (region_stop c.halt) c.path 0 (flat_map work_regions works) [] c.below
-  pub refusal : (trouble : Trouble) → c.halt ≡ Some (halt.Trouble trouble) → trouble ≢ Memory → c.refused ≡ Some trouble
-  pub crowded : (line : ℕ) → c.halt ≡ Some (halt.Tasks line) → task_limit < length c.below
+  pub refusal : (trouble : Trouble) → c.halt ≡ Some (halt.Own (stop.Trouble trouble)) → trouble ≢ Memory → c.refused ≡ Some trouble
+  pub crowded : (line : ℕ) → c.halt ≡ Some (halt.Own (stop.Tasks line)) → task_limit < length c.below
   pub under : (path : List Step) (why : Stop) → c.halt ≡ Some (halt.Region path why) → IsUnder path c.path
 
 -- A lane that made a stop, and whose log refused what waited then, stops by that. A lane of whose region a task stopped hands that on,
@@ -80,7 +81,7 @@ WantsMemory None = ⊥
 WantsMemory (Some s) = s.1 ≡ stop.Trouble Memory
 
 -- what a lane hands on, if its logs found a place
-abbrev pub kept_by : Bool → ClosedValue → List Entry
+abbrev pub kept_by : Bool → ClosedValue → List HandedEntry
 kept_by kept c = if kept then c.own ∷ c.below else []
 
 -- no memory was wanting for this lane
@@ -105,7 +106,7 @@ pub data IsAnswer (span : ℕ) (lanes : ℕ → ClosedValue) (kept : ℕ → Boo
 
 -- The lanes were gathered: each handed on its own log and then those below it, or none of them where no memory was found for it; and
 -- this is what their region answers.
-pub record Gathered (span : ℕ) (lanes : ℕ → ClosedValue) (before after : List Entry) (r : Answer) : Type 0 where
+pub record Gathered (span : ℕ) (lanes : ℕ → ClosedValue) (before after : List HandedEntry) (r : Answer) : Type 0 where
   pub kept : ℕ → Bool
   pub grows : after ≡ before ++ handed_by (λ k. kept_by (kept k) (lanes k)) 0 span
   pub answer : IsAnswer span lanes kept r
@@ -124,14 +125,14 @@ answer_for (Halted path why) = Err (path, why)
 answer_for (Wanted path) = Err (path, stop.Trouble Memory)
 
 -- what a lane answers, whose logs found a place or not
-abbrev pub IsVerdict : List Step → Option Halt → Option Trouble → Bool → Verdict → Type 0
-IsVerdict path halt refused kept Ended = (halt ≡ None) × (refused ≡ None) × (kept ≡ true)
-IsVerdict path halt refused kept (Refused at why) = (halt ≡ None) × (why ≢ stop.Trouble Memory) × (kept ≡ true) × (lane_stop path halt refused ≡ Some (at, why))
-IsVerdict path halt refused kept (Halted at why) = (halt ≢ None) × (why ≢ stop.Trouble Memory) × (kept ≡ true) × (lane_stop path halt refused ≡ Some (at, why))
-IsVerdict path halt refused kept (Wanted at) = (lane_stop path halt refused ≡ Some (at, stop.Trouble Memory)) ⊎ ((at ≡ path) × (kept ≡ false))
+abbrev pub IsGathered : List Step → Option Halt → Option Trouble → Bool → Verdict → Type 0
+IsGathered path halt refused kept Ended = (halt ≡ None) × (refused ≡ None) × (kept ≡ true)
+IsGathered path halt refused kept (Refused at why) = (halt ≡ None) × (why ≢ stop.Trouble Memory) × (kept ≡ true) × (lane_stop path halt refused ≡ Some (at, why))
+IsGathered path halt refused kept (Halted at why) = (halt ≢ None) × (why ≢ stop.Trouble Memory) × (kept ≡ true) × (lane_stop path halt refused ≡ Some (at, why))
+IsGathered path halt refused kept (Wanted at) = (lane_stop path halt refused ≡ Some (at, stop.Trouble Memory)) ⊎ ((at ≡ path) × (kept ≡ false))
 
 -- A lane's logs were put after others, or none of them, and it answers this.
-pub record TookIn (c : ClosedValue) (before after : List Entry) (v : Verdict) : Type 0 where
+pub record TookIn (c : ClosedValue) (before after : List HandedEntry) (v : Verdict) : Type 0 where
   pub kept : Bool
   pub grows : after ≡ before ++ kept_by kept c
-  pub verdict : IsVerdict c.path c.halt c.refused kept v
+  pub verdict : IsGathered c.path c.halt c.refused kept v

@@ -4,7 +4,7 @@ use Rattle.sw_base.specs.declared.environment.Log.{Ghosts}
 use Rattle.sw_base.specs.declared.path.Step.{Step}
 use Rattle.event_buffer.specs.Buffered.{Buffered}
 use Rattle.kernel_syntax.specs.declared.syntax.Array.{Array}
-use Rattle.kernel_syntax.specs.Layout.{ArePlaced}
+use Rattle.kernel_syntax.specs.Layout.{ArePlaced, elements}
 use Rattle.kernel_syntax.specs.Tree.{TeamTree}
 use Rattle.kernel_model.specs.declared.phase.Item.{Item}
 use Rattle.shared_words.specs.Handles.{ChunksValue, WordsValue}
@@ -21,8 +21,9 @@ pub record GroundValue : Type 0 where
   pub words : WordsValue
   pub size : ℕ
 
--- the arrays' elements are words of the table, each its own
+-- the table has as many words as the arrays have elements, and each of these is a word of its own
 pub record IsGround (g : GroundValue) : Type 0 where
+  pub count : g.words.elements ≡ elements g.arrays
   pub placed : ArePlaced g.arrays g.words.elements
   pub apart : HaveOwnWords g.arrays
   pub size : IsBufferSize g.size

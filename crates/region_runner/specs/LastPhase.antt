@@ -11,7 +11,7 @@ use Rattle.history_model.specs.Joined.{LastIsEnd}
 use Rattle.history_model.specs.Work.{work_records}
 use Rattle.lane_runner.specs.Forking.{IsReady}
 use Rattle.lane_runner.specs.Going.{Progress, CanGo, MadePast, GoesPast, IsSameLog, site}
-use Rattle.lane_runner.specs.Lane.{LaneValue, answer_of, halt_in, progress}
+use Rattle.lane_runner.specs.Lane.{LaneValue, answer_due, halt_in, progress}
 use Rattle.lane_runner.specs.World.{WorldValue}
 
 -- the last phase has no barrier, and the End has this line
@@ -32,7 +32,7 @@ pub record HasPutEnd (w : WorldValue) (items : List Item) (line : ℕ) (slots sl
 -- The lane executed the items of a phase, and put its End, if it is the last one.
 pub record WentOn (w : WorldValue) (items : List Item) (end : Option ℕ) (old new : LaneValue) : Type 0 where
   pub path : new.path ≡ old.path
-  pub goes : GoesPast (bar_count (map part_of items)) w (phase_part items end (site w)) old.locals new.locals (progress old) (progress new) (answer_of (halt_in new))
+  pub goes : GoesPast (bar_count (map part_of items)) w (phase_part items end (site w)) old.locals new.locals (progress old) (progress new) (answer_due (halt_in new))
   pub ended : (line : ℕ) → end ≡ Some line → new.stopped ≡ None → HasPutEnd w items line old.locals new.locals (progress old) (progress new)
   pub log : IsSameLog old.buffer new.buffer
   pub loops : new.stopped ≡ None → new.tally.next_loop ≡ old.tally.next_loop + drawn_count (map part_of items)

@@ -1,17 +1,18 @@
 -- What a lane did in the phases so far, as one task: a new hand in each phase, one log, one meaning.
 use Rattle.std.specs.Prelude.{◌≡◌, ℕ, ◌+◌, ◌-◌, List, [], ◌∷◌, length, ℤ, Option, Some, None, Result, Ok, Err}
+use Rattle.log_format.specs.Limit.{record_limit}
 use Rattle.log_format.specs.declared.record.Kind.TheVariants as kind
 use Rattle.kernel_syntax.specs.Program.{Program}
-use Rattle.kernel_model.specs.State as model
+use Rattle.kernel_model.specs.declared.stop.StopWhy.TheVariants as reason
 use Rattle.kernel_model.specs.State.{State, Fork, Outcome, after, event, put}
 use Rattle.kernel_model.specs.Value.{Site}
 use Rattle.kernel_model.specs.declared.phase.Item.{Item}
 use Rattle.kernel_model.specs.Parts.{run_parts}
 use Rattle.kernel_model.specs.Phases.{parts_in}
-use Rattle.kernel_model.specs.Trace.{log_limit}
 use Rattle.kernel_model.specs.Effect.{Finish, Returned, Halted, Makes}
 use Rattle.history_model.specs.Work.{Work, Rest, then_work, work_regions}
 use Rattle.execution_model.specs.Runs.{RunsRegions}
+use Rattle.lane_runner.specs.declared.stop.Stop.TheVariants as stop
 use Rattle.lane_runner.specs.declared.stop.Halt.{Halt}
 use Rattle.lane_runner.specs.declared.stop.Halt.TheVariants as halt
 use Rattle.lane_runner.specs.Drawing.{HasDrawn}
@@ -53,7 +54,7 @@ pub record TaskRan (w : WorldValue) (part : State → Outcome (Unit {0})) (slots
   pub handed : WorkHandsOn None old new (in_one works)
   pub few : AreFew old.done → AreFew new.done
   pub unrefused : new.buffer.refused ≡ None
-  pub makes : Makes part slots (log_limit - old.buffer.count) (effect_of slots' (in_one works) forks) finish
+  pub makes : Makes part slots (record_limit - old.buffer.count) (effect_of slots' (in_one works) forks) finish
   pub regions : (program : Program) → program.arrays ≡ w.arrays → RunsRegions program forks (work_regions (in_one works))
 
 -- The task executed the part in these works up to a record that its log, or a region that its lanes, didn't take.
@@ -65,15 +66,15 @@ pub record TaskBegan (w : WorldValue) (part : State → Outcome (Unit {0})) (slo
   pub ends : EndsBy cause own (log_of (in_one works))
   pub stops : StopsBy w.arrays old new cause forks (work_regions (in_one works))
   pub handed : WorkHandsOn (stop_by cause) old new (in_one works)
-  pub begins : BeginsPart part slots (log_limit - old.buffer.count) (log_of (in_one works)) forks
+  pub begins : BeginsPart part slots (record_limit - old.buffer.count) (log_of (in_one works)) forks
   pub regions : (program : Program) → program.arrays ≡ w.arrays → RunsRegions program forks (work_regions (in_one works))
 
 -- how a task stands after these works, by what its last phase answered
 abbrev pub TaskGoes : WorldValue → (State → Outcome (Unit {0})) → List ℤ → List ℤ → Progress → Progress → List Work → Result (Unit {0}) Halt → Type 0
 TaskGoes w part slots slots' old new works (Ok _) = TaskRan w part slots slots' old new works (Returned tt)
-TaskGoes w part slots slots' old new works (Err (halt.DivZero line)) = TaskRan w part slots slots' old new works (Halted model.DivZero line)
-TaskGoes w part slots slots' old new works (Err (halt.Index line)) = TaskRan w part slots slots' old new works (Halted model.Index line)
-TaskGoes w part slots slots' old new works (Err (halt.LogFull line)) = TaskRan w part slots slots' old new works (Halted model.LogFull line)
+TaskGoes w part slots slots' old new works (Err (halt.Own (stop.DivZero line))) = TaskRan w part slots slots' old new works (Halted reason.DivZero line)
+TaskGoes w part slots slots' old new works (Err (halt.Own (stop.Index line))) = TaskRan w part slots slots' old new works (Halted reason.Index line)
+TaskGoes w part slots slots' old new works (Err (halt.Own (stop.LogFull line))) = TaskRan w part slots slots' old new works (Halted reason.LogFull line)
 TaskGoes w part slots slots' old new works (Err (halt.Region path why)) = TaskBegan w part slots old new works (AtRegion path why)
-TaskGoes w part slots slots' old new works (Err (halt.Tasks line)) = TaskBegan w part slots old new works (AtTasks line)
-TaskGoes w part slots slots' old new works (Err (halt.Trouble trouble)) = TaskBegan w part slots old new works AtLog × Refused trouble new
+TaskGoes w part slots slots' old new works (Err (halt.Own (stop.Tasks line))) = TaskBegan w part slots old new works (AtTasks line)
+TaskGoes w part slots slots' old new works (Err (halt.Own (stop.Trouble trouble))) = TaskBegan w part slots old new works AtLog × Refused trouble new

@@ -15,7 +15,7 @@ use Rattle.lane_runner.specs.declared.stop.Stop.{Stop}
 use Rattle.lane_runner.specs.declared.stop.Stop.TheVariants as stop
 use Rattle.sw_base.specs.declared.trouble.Trouble.TheVariants.{Memory}
 use Rattle.lane_runner.specs.Forking.{Answer, stop_in}
-use Rattle.lane_runner.specs.Handed.{AreFew, Entry, LogPlace, TaskHands, TellStop}
+use Rattle.lane_runner.specs.Handed.{AreFew, HandedEntry, LogPlace, TaskHands, TellStop}
 use Rattle.region_runner.specs.Crew.{CrewValue, world_of}
 use Rattle.region_runner.specs.Gathering.{ClosedValue, LaneGave, TookIn, answer_for}
 use Rattle.lane_runner.specs.Lane.{LaneValue, stop_of, with_hand}
@@ -53,17 +53,17 @@ RanRoot program place old new (Some c) = RootGave program place old new c
 RanRoot program place old new None = new ≡ old
 
 -- what the logs of the root and of the tasks below it are, and what the run answers
-pub record SettledRoot (c : ClosedValue) (logs : List Entry) (r : Answer) : Type 0 where
+pub record SettledRoot (c : ClosedValue) (logs : List HandedEntry) (r : Answer) : Type 0 where
   pub verdict : Verdict
   pub took : TookIn c [] logs verdict
   pub answer : r ≡ answer_for verdict
 
-abbrev pub IsSettled : Option ClosedValue → List Entry → Answer → Type 0
+abbrev pub IsSettled : Option ClosedValue → List HandedEntry → Answer → Type 0
 IsSettled (Some c) logs r = SettledRoot c logs r
 IsSettled None logs r = (logs ≡ []) × (r ≡ Err ([], stop.Trouble Memory))
 
 -- The run of a kernel answers this: the root did this work, and the logs are those of all tasks, of which one stopped, if one did.
-pub record RootRests (program : Program) (place : LogPlace) (old new : HandValue View) (logs : List Entry) (r : Answer) : Type 0 where
+pub record RootRests (program : Program) (place : LogPlace) (old new : HandValue View) (logs : List HandedEntry) (r : Answer) : Type 0 where
   pub work : Work
   pub did : DidWork program.arrays old new work
   pub runs : RunsTask program (root_start program) (work ∷ [])

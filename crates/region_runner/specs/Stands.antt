@@ -1,5 +1,6 @@
 -- How a team stands after some of its phases.
 use Rattle.std.specs.Prelude.{◌≡◌, ◌⊎◌, ◌++◌, ℕ, ◌+◌, ◌<◌, ◌≤◌, List, [], ◌∷◌, length, map, slice_index_or, Option, Some, None, Ok}
+use Rattle.log_format.specs.Limit.{record_limit}
 use Rattle.shared_words.specs.declared.view.View.{View}
 use Rattle.shared_words.specs.Handles.{Belongs, HandValue, with_view}
 use Rattle.shared_words.specs.Views.{IsAtRest}
@@ -12,7 +13,6 @@ use Rattle.history_model.specs.Sound.{PassAllBarriers}
 use Rattle.kernel_model.specs.declared.phase.Item.{Item}
 use Rattle.kernel_model.specs.Parts.{bar_count, drawn_count}
 use Rattle.kernel_model.specs.Phases.{part_of, parts_in}
-use Rattle.kernel_model.specs.Trace.{log_limit}
 use Rattle.lane_runner.specs.declared.stop.Halt.{Halt}
 use Rattle.lane_runner.specs.Going.{IsSameLog, Progress, site}
 use Rattle.region_runner.specs.Crew.{CrewValue, world_of}
@@ -20,7 +20,7 @@ use Rattle.region_runner.specs.Gathering.{ClosedValue}
 use Rattle.region_runner.specs.Hands.{joined_with, lane_hand, parted_for}
 use Rattle.region_runner.specs.LastPhase.{WentOn}
 use Rattle.region_runner.specs.Opening.{ClosesAs}
-use Rattle.lane_runner.specs.Lane.{IsWithoutHand, LaneValue, answer_of, halt_in, hand_view, progress, with_hand}
+use Rattle.lane_runner.specs.Lane.{IsWithoutHand, LaneValue, answer_due, halt_in, hand_view, progress, with_hand}
 use Rattle.region_runner.specs.Ran.{TaskGoes, TakesUp, task_part}
 use Rattle.region_runner.specs.Team.{DidPhases}
 
@@ -28,7 +28,7 @@ use Rattle.region_runner.specs.Team.{DidPhases}
 pub record MayStep (crew : CrewValue) (m : LaneValue) : Type 0 where
   pub unrefused : m.buffer.refused ≡ None
   pub drawing : Belongs m.tally.draws crew.chunks.table
-  pub enough : log_limit ≤ m.tally.draws.view.left + m.buffer.count
+  pub enough : record_limit ≤ m.tally.draws.view.left + m.buffer.count
   pub forks : m.tally.forked ≤ m.buffer.count
 
 -- and it has the counters for the items of a phase
@@ -48,8 +48,8 @@ pub record RanPhase (crew : CrewValue) (items : List Item) (end : Option ℕ) (o
   pub same : (k : ℕ) (d : LaneValue) → k < length before → IsWithoutHand (slice_index_or mid k d) (slice_index_or after k d)
 
 -- the records that a lane put in phases
-abbrev pub put_in : ℕ → Phases → List Record
-put_in lane phases = flat_map work_records (lane_works lane phases)
+abbrev pub records_put : ℕ → Phases → List Record
+records_put lane phases = flat_map work_records (lane_works lane phases)
 
 -- of these phases the last one has a barrier, if there is one, and before it a lane passes so many
 pub record IsBehind (done : List (List Item)) (bars : ℕ) : Type 0 where
@@ -64,13 +64,13 @@ pub record LaneStands (crew : CrewValue) (start : LaneValue) (done : List (List 
   pub path : m.path ≡ start.path
   pub last : Progress
   pub up : TakesUp last (progress m)
-  pub goes : TaskGoes (world_of crew lane) (task_part (site (world_of crew lane)) done end) start.locals m.locals (progress start) last (lane_works lane phases) (answer_of (halt_in m))
+  pub goes : TaskGoes (world_of crew lane) (task_part (site (world_of crew lane)) done end) start.locals m.locals (progress start) last (lane_works lane phases) (answer_due (halt_in m))
   pub log : IsSameLog start.buffer m.buffer
   pub loops : m.stopped ≡ None → m.tally.next_loop ≡ start.tally.next_loop + drawn_count (parts_in done)
   pub may : m.stopped ≡ None → MayStep crew m
-  pub passes : m.stopped ≡ None → barrier_count (put_in lane phases) ≡ bar_count (parts_in done)
-  pub ends : (line : ℕ) → end ≡ Some line → m.stopped ≡ None → LastIsEnd (put_in lane phases)
-  pub behind : (h : Halt) → halt_in m ≡ Some h → IsBehind done (barrier_count (put_in lane phases))
+  pub passes : m.stopped ≡ None → barrier_count (records_put lane phases) ≡ bar_count (parts_in done)
+  pub ends : (line : ℕ) → end ≡ Some line → m.stopped ≡ None → LastIsEnd (records_put lane phases)
+  pub behind : (h : Halt) → halt_in m ≡ Some h → IsBehind done (barrier_count (records_put lane phases))
 
 -- so do all lanes of a team, and their hands are home
 pub record TeamStands (crew : CrewValue) (done : List (List Item)) (end : Option ℕ) (phases : Phases) (old new : HandValue View) (before after : List LaneValue) : Type 0 where

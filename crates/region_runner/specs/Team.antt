@@ -8,7 +8,7 @@ use Rattle.history_model.specs.Joined.{IsJoined, ArePhasesJoined}
 use Rattle.kernel_syntax.specs.declared.syntax.Array.{Array}
 use Rattle.lane_runner.specs.Forking.{after_phases}
 use Rattle.lane_runner.specs.Going.{worked}
-use Rattle.lane_runner.specs.Handed.{Entry}
+use Rattle.lane_runner.specs.Handed.{HandedEntry}
 use Rattle.execution_model.specs.Elements.{element_word, layout_of}
 
 -- the works of so many lanes, from this one on
@@ -29,6 +29,6 @@ pub record DidPhases (arrays : List Array) (span : ℕ) (old new : HandValue Vie
   pub hand : new ≡ with_view old (after_phases (element_word arrays) span phases old.view)
 
 -- what so many lanes hand on, from this one on
-abbrev pub handed_by : (ℕ → List Entry) → ℕ → ℕ → List Entry
+abbrev pub handed_by : (ℕ → List HandedEntry) → ℕ → ℕ → List HandedEntry
 handed_by entries lane zero = []
 handed_by entries lane (suc count) = entries lane ++ handed_by entries (suc lane) count

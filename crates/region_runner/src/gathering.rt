@@ -5,7 +5,7 @@ ghost use Rattle.shared_words.specs.Draws.{regained, IsFirstAlone, HasEachOnce};
 ghost use Rattle.shared_words.specs.Handles.{Belongs, with_view};
 ghost use Rattle.region_runner.specs.Drawing.{regained_all};
 ghost use Rattle.lane_runner.specs.Lane.{halt_of};
-ghost use Rattle.region_runner.specs.Gathering.{ClosedValue, Gathered, IsVerdict, TookIn, answer_for, draws_view, lane_stop, urgency_of};
+ghost use Rattle.region_runner.specs.Gathering.{ClosedValue, Gathered, IsGathered, TookIn, answer_for, draws_view, lane_stop, urgency_of};
 
 use crate::closing::Closed;
 use lane_runner::Stop;
@@ -72,7 +72,7 @@ fn is_want(why: Stop) -> bool
 
 // What the lane at this path answers, whose logs found a place or not.
 fn judge(path: Path, stopped: Option<(Path, Stop)>, refused: Option<Trouble>, kept: bool) -> Verdict
-    ensures { IsVerdict path (halt_of path stopped) refused kept result }
+    ensures { IsGathered path (halt_of path stopped) refused kept result }
 {
     let halted = stopped.is_some();
     match lane_stop(&path, stopped, refused) {

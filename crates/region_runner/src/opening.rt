@@ -5,7 +5,7 @@ ghost use Rattle.event_buffer.specs.Buffered.{Buffered};
 ghost use Rattle.race_model.specs.Listing.{lane_of};
 ghost use Rattle.shared_words.specs.Draws.{whole_share};
 ghost use Rattle.shared_words.specs.Handles.{Belongs};
-ghost use Rattle.lane_runner.specs.Handed.{entry_of, place_of};
+ghost use Rattle.lane_runner.specs.Handed.{entry_of, log_place};
 ghost use Rattle.lane_runner.specs.Children.{AreNewLogs};
 ghost use Rattle.lane_runner.specs.Lane.{IsLanePath};
 ghost use Rattle.region_runner.specs.Answer.{IsBufferSize};
@@ -119,7 +119,7 @@ fn open_all<R: Threads, L: Log, G: LiveGate>(
     ensures share { IfSome result (λ opened. share.new ≡ lent_to span share.old) }
     ensures opens { (task : Buffered) → task.path ≡ at.now → task.size ≡ ground.now.size
         → AreNewLogs L.Log task number span logs.items
-        → IfSome result (λ opened. (k : ℕ) (d : _) → k < span → OpensAs (place_of task) (lane_of at.now number k span) locals.now.slots.items (lent_hand share.old) (slice_index_or opened.items k d)) }
+        → IfSome result (λ opened. (k : ℕ) (d : _) → k < span → OpensAs (log_place task) (lane_of at.now number k span) locals.now.slots.items (lent_hand share.old) (slice_index_or opened.items k d)) }
 {
     let mut opened = Vec::new(alloc);
     let mut lane = 0u16;
@@ -200,7 +200,7 @@ pub(crate) fn open<R: Threads + Wait, L: Log, G: LiveGate>(
     requires logs { AreLanesLogs ground.now L.Log at.now number span logs.items }
     ensures opens { (task : Buffered) → task.path ≡ at.now → task.size ≡ ground.now.size
         → AreNewLogs L.Log task number span logs.items
-        → OpensTeam (place_of task) at.now number span locals.now.slots.items share.old share.new result }
+        → OpensTeam (log_place task) at.now number span locals.now.slots.items share.old share.new result }
 {
     let Some(opened) = open_all(
         rt, alloc, ground, at, number, span, locals, chunks, share, logs,

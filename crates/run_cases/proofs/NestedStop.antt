@@ -1,12 +1,13 @@
 -- The run that stopped in a nested region.
 use Rattle.std.proofs.Common.{◌≡◌, refl, ap, subst, inl, inr, ℕ, zero, suc, ◌<◌, List, [], ◌∷◌, arith, rules}
-use Rattle.std.specs.Prelude.{codes, drop}
+use Rattle.std.specs.Prelude.{drop}
 use Rattle.log_format.specs.declared.record.Kind.TheVariants as kind
 use Rattle.log_format.specs.Fitting.{wrapped}
 use Rattle.sw_base.specs.declared.path.Step.{Step}
 use Rattle.race_model.specs.Listing.{Ends, Forks, Lane, NoLane, lane_of}
 use Rattle.race_model.specs.Trace.{logs_of}
 use Rattle.kernel_model.specs.State as state
+use Rattle.kernel_model.specs.declared.stop.StopWhy.TheVariants as reason
 use Rattle.kernel_model.specs.State.{event, put}
 use Rattle.kernel_model.specs.Trace.{Stopped, run, draw, task}
 use Rattle.kernel_model.specs.Value.{value, read}
@@ -107,12 +108,12 @@ same_tasks = refl
 
 -- ---- where it stopped
 
-ends : EndsTask kernel tasks (inner_path 1) (Stopped state.DivZero 6)
+ends : EndsTask kernel tasks (inner_path 1) (Stopped reason.DivZero 6)
 unfolding run value put read draw task wrapped start_at
 ends = record { listed = (3, omega arith, refl); start = lane_begin inner_fork 1; starts = refl; traced = record { records_are = refl; ended = refl } }
 
 -- lane 1 of the outer team stopped, too
-pub later_ends : EndsTask kernel tasks (team_path 1) (Stopped state.Index 9)
+pub later_ends : EndsTask kernel tasks (team_path 1) (Stopped reason.Index 9)
 unfolding run value put read draw task wrapped start_at
 later_ends = record { listed = (4, omega arith, refl); start = lane_begin outer_fork 1; starts = refl; traced = record { records_are = refl; ended = refl } }
 
@@ -141,9 +142,9 @@ least (s ∷ []) step below is lane less =
     subst (λ (x : Step). Further x step lane) (ap first_step is) (subst (λ (t : Step). Further outer_step t lane) second (further lane (omega (arith, small))))
 least (s ∷ t ∷ above) step below is lane less = absurd (not_empty above below step (ap (λ (path : List Step). drop 2 path) is))
 
-pub stopped : AreStopped ⊥ kernel dir size logs (inner_path 1) 6 (codes "DivZero")
+pub stopped : AreStopped ⊥ kernel dir size logs (inner_path 1) 6 reason.DivZero
 stopped =
-    are_stopped kernel tasks words (inner_path 1) (stop.DivZero 6) (Stopped state.DivZero 6) 6 (codes "DivZero") refl refl (λ at is. cc) (executes kernel tasks 2 work 0 0 same_tasks sound joined runs nests fitted history)
+    are_stopped kernel tasks words (inner_path 1) (stop.DivZero 6) (Stopped reason.DivZero 6) 6 reason.DivZero refl refl (λ at is. cc) (executes kernel tasks 2 work 0 0 same_tasks sound joined runs nests fitted history)
     (record { root = Forks (Forks Ends (Lane Ends NoLane) Ends) (Lane Ends NoLane) Ends; lists = refl }) ends least
 
 -- ---- another lane

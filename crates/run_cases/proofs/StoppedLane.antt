@@ -1,6 +1,6 @@
 -- The run of two lanes that stopped.
 use Rattle.std.proofs.Common.{◌≡◌, refl, ap, inl, ℕ, ◌<◌, List, [], ◌∷◌, ◌++◌, arith, rules}
-use Rattle.std.specs.Prelude.{codes, drop}
+use Rattle.std.specs.Prelude.{drop}
 use Rattle.log_format.specs.declared.record.Record.{Record}
 use Rattle.log_format.specs.declared.record.Kind.TheVariants as kind
 use Rattle.log_format.specs.Fitting.{wrapped}
@@ -9,6 +9,7 @@ use Rattle.race_model.specs.Listing.{Ends, Forks, Lane, NoLane}
 use Rattle.race_model.specs.Order.{IsLane}
 use Rattle.race_model.specs.Trace.{Node, logs_of}
 use Rattle.kernel_model.specs.State as state
+use Rattle.kernel_model.specs.declared.stop.StopWhy.TheVariants as reason
 use Rattle.kernel_model.specs.State.{event, put}
 use Rattle.kernel_model.specs.Trace.{Stopped, run, draw, task}
 use Rattle.kernel_model.specs.Value.{value, read}
@@ -92,7 +93,7 @@ same_tasks = refl
 
 -- ---- where it stopped
 
-ends : EndsTask kernel tasks (team_path 0) (Stopped state.Index 6)
+ends : EndsTask kernel tasks (team_path 0) (Stopped reason.Index 6)
 unfolding run value put read draw task wrapped start_at
 ends = record { listed = (1, omega arith, refl); start = lane_begin fork 0; starts = refl; traced = record { records_are = refl; ended = refl } }
 
@@ -100,9 +101,9 @@ least : IsLeast tasks (team_path 0)
 least [] step below is lane less = let none : 0 ≡ step.lane = ap first_lane is in absurd (omega (arith, none))
 least (s ∷ above) step below is lane less = absurd (not_empty above below step (ap (λ (path : List Step). drop 1 path) is))
 
-pub stopped : AreStopped ⊥ kernel dir size logs (team_path 0) 6 (codes "Index")
+pub stopped : AreStopped ⊥ kernel dir size logs (team_path 0) 6 reason.Index
 stopped =
-    are_stopped kernel tasks words (team_path 0) (stop.Index 6) (Stopped state.Index 6) 6 (codes "Index") refl refl (λ at is. cc) (executes kernel tasks 1 work 1 1 same_tasks sound joined runs nests fitted history)
+    are_stopped kernel tasks words (team_path 0) (stop.Index 6) (Stopped reason.Index 6) 6 reason.Index refl refl (λ at is. cc) (executes kernel tasks 1 work 1 1 same_tasks sound joined runs nests fitted history)
     (record { root = Forks Ends (Lane Ends NoLane) Ends; lists = refl }) ends least
 
 -- ---- lanes that went on too early

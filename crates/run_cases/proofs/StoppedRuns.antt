@@ -7,6 +7,7 @@ use Rattle.sw_base.specs.declared.path.Step.{Step}
 use Rattle.race_model.specs.Listing.{IsListing}
 use Rattle.race_model.specs.Trace.{Trace}
 use Rattle.step_history.specs.History.{HasHistory}
+use Rattle.kernel_model.specs.declared.stop.StopWhy.{StopWhy}
 use Rattle.kernel_syntax.specs.Program.{Program}
 use Rattle.kernel_model.specs.Folder.{paths_of, root_start}
 use Rattle.kernel_model.specs.Trace.{Ending}
@@ -71,10 +72,10 @@ all_whole path [] = AreLeftLogs.no_task
 all_whole path (t ∷ tasks) = AreLeftLogs.next t tasks (told_log dir size t) (map (told_log dir size) tasks) (IsLeftLog.whole refl) (all_whole path tasks)
 
 -- a run that stopped as a trace tells, with whole logs
-pub are_stopped : (program : Program) (tasks : Trace) (words : List ℕ) (path : List Step) (why : Stop) (end : Ending) (line : ℕ) (name : List ℕ)
-    → told_stop why ≡ Some (line, name) → ending_for why ≡ Some end → ((at : ℕ) → why ≡ stop.Tasks at → ⊥) → IsExecution program tasks (element_address program.arrays) words
-    → IsListing (paths_of tasks) → EndsTask program tasks path end → IsLeast tasks path → AreStopped ⊥ program dir size (map (told_log dir size) tasks) path line name
-are_stopped program tasks words path why end line name told is few execution listed ends least = record {
+pub are_stopped : (program : Program) (tasks : Trace) (words : List ℕ) (path : List Step) (why : Stop) (end : Ending) (line : ℕ) (reason : StopWhy)
+    → told_stop why ≡ Some (line, reason) → ending_for why ≡ Some end → ((at : ℕ) → why ≡ stop.Tasks at → ⊥) → IsExecution program tasks (element_address program.arrays) words
+    → IsListing (paths_of tasks) → EndsTask program tasks path end → IsLeast tasks path → AreStopped ⊥ program dir size (map (told_log dir size) tasks) path line reason
+are_stopped program tasks words path why end line reason told is few execution listed ends least = record {
   why = why;
   told = told;
   tasks = tasks;

@@ -1,6 +1,7 @@
 //! A run of two lanes.
-ghost use Rattle.std.specs.Prelude.{ℕ, List, [], ◌∷◌, ◌++◌, codes};
+ghost use Rattle.std.specs.Prelude.{ℕ, List, [], ◌∷◌, ◌++◌};
 ghost use Rattle.log_format.specs.declared.record.Kind.TheVariants as kind;
+ghost use Rattle.kernel_model.specs.declared.stop.StopWhy.TheVariants as reason;
 ghost use Rattle.kernel_model.specs.State.{event};
 ghost use Rattle.execution_model.specs.Execution.{IsExecution};
 ghost use Rattle.run_command.specs.Run.{AreStopped};
@@ -8,7 +9,7 @@ ghost use Rattle.run_cases.specs.TwoLanes.{kernel, dir, size, logs, team_path, t
 
 /// Lane 0 stops, since an index lies outside its array, and all logs are whole.
 pub fn a_lane_stops()
-    ensures { AreStopped ⊥ kernel dir size logs (team_path 0) 6 (codes "Index") }
+    ensures { AreStopped ⊥ kernel dir size logs (team_path 0) 6 reason.Index }
 {}
 
 /// A lane passes no barrier behind one that another lane of its team hasn't come to, and a task goes on behind a region only once all of

@@ -9,6 +9,8 @@ use Rattle.sw_base.specs.HandedLog.{HandedLog, SealsPrefix, between}
 use Rattle.race_model.specs.FirstBad.{rows_of}
 use Rattle.race_model.specs.Row.{index_bytes}
 use Rattle.race_model.specs.Trace.{TaskLog, Trace}
+use Rattle.kernel_model.specs.declared.stop.StopWhy.{StopWhy}
+use Rattle.kernel_syntax.specs.Program.{Program}
 use Rattle.run_command.specs.declared.outcome.Outcome.{Outcome}
 use Rattle.run_command.specs.declared.outcome.Outcome.TheVariants.{NoKernel, Refused, IndexThere, Stopped, Ran, ReadFault, WriteFault, NoMemory}
 use Rattle.run_command.specs.Run.{AreLeftLogs, CameOut, EndedRun, IsLeftLog, LeavesPart, StoppedRun}
@@ -26,10 +28,10 @@ module _ (rose : Type 0) (dir : List ℕ) (size : ℕ) (path : List Step) where
   own_dirs _ _ (left.next task tasks log logs is rest) = All-cons (IsOfFolder dir) log logs (own_dir task log is) (own_dirs tasks logs rest)
 
 module _ (rose : Type 0) (file dir : List ℕ) (size : ℕ) (old new : Content) where
-  stopped_leaves : (path : List Step) (line : ℕ) (name : List ℕ) → StoppedRun rose file dir size old new path line name → LeavesPart rose file dir size old new
-  stopped_leaves path line name run =
+  stopped_leaves : (program : Program) (path : List Step) (line : ℕ) (reason : StopWhy) → StoppedRun rose file dir size old new program path line reason → LeavesPart rose file dir size old new
+  stopped_leaves program path line reason run =
       let sealed : SealsPrefix run.logs old new = between run.logs [] (sym (append-nil run.logs)) run.leaves in
-      left.logs run.program run.can run.logs (left.stopped path line name run.stopped) sealed
+      left.logs program run.can run.logs (left.stopped path line reason run.stopped) sealed
       (prefix_keeps_index dir run.logs old new (own_dirs rose dir size path run.stopped.tasks run.logs run.stopped.logs_are) sealed ∙ run.can.fresh)
 
   -- whatever came out
@@ -37,7 +39,7 @@ module _ (rose : Type 0) (file dir : List ℕ) (size : ℕ) (old new : Content) 
   came_leaves NoKernel came = left.nothing came.1
   came_leaves (Refused line why) came = left.nothing came.1
   came_leaves IndexThere came = left.nothing came.1
-  came_leaves (Stopped path line why) came = stopped_leaves path line why.now came
+  came_leaves (Stopped path line why) came = stopped_leaves came.0 path line why came.1
   came_leaves (Ran kernel tasks records words) came =
       left.index _ came.can came.tasks words.items came.run (index_bytes FORMAT (rows_of came.tasks)) [] (sym (append-nil (index_bytes FORMAT (rows_of came.tasks)))) came.leaves
   came_leaves ReadFault came = left.nothing came

@@ -3,6 +3,8 @@ pub mod StoredRun
 pub mod RunSums
 pub mod IndexKept
 pub mod RunFolder
+pub mod WholeRuns
 pub mod RunEnds
 pub mod Leaving
 pub mod Statuses
+pub mod Dues

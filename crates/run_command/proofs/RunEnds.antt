@@ -15,10 +15,11 @@ use Rattle.sw_base.specs.declared.trouble.Trouble.TheVariants as trouble
 use Rattle.sw_base.specs.Environment.{Content, Rose, Text, outline_of}
 use Rattle.sw_base.specs.HandedLog.{IsOwnLog, HandedLog, outline, SealsPrefix}
 use Rattle.sw_base.specs.Names.{IsUnder}
-use Rattle.race_model.specs.FirstBad.{IsBad, row_of, rows_of}
+use Rattle.race_model.specs.FirstBad.{row_of, rows_of}
 use Rattle.race_model.specs.IndexFault.{AreRows}
 use Rattle.race_model.specs.Row.{Row, index_bytes}
 use Rattle.race_model.specs.Trace.{Trace, TaskLog}
+use Rattle.kernel_model.specs.declared.stop.StopWhy.{StopWhy}
 use Rattle.kernel_syntax.specs.Program.{Program}
 use Rattle.kernel_model.specs.Folder.{paths_of}
 use Rattle.kernel_file.specs.declared.reading.KernelRefusal.{KernelRefusal}
@@ -27,29 +28,30 @@ use Rattle.kernel_file.specs.Holding.{IsRefusal}
 use Rattle.event_buffer.specs.Logged.{HasAll}
 use Rattle.lane_runner.specs.declared.stop.Stop.{Stop}
 use Rattle.lane_runner.specs.declared.stop.Stop.TheVariants.{DivZero, Index, LogFull, Tasks, Trouble}
-use Rattle.lane_runner.specs.Handed.{AreEntriesOf, Entry, HasCrowdedTask, HasFaultyLog, IsEntryOf, IsForMemory, Keeps, LogPlace, MayLack, entries_of, entry_of}
+use Rattle.lane_runner.specs.Handed.{AreEntriesOf, HandedEntry, HasCrowdedTask, HasFaultyLog, IsEntryOf, IsForMemory, KeepsRecords, LogPlace, MayLack, entries_of, entry_of}
 use Rattle.lane_runner.specs.Handed as handed
-use Rattle.region_runner.specs.Answer.{HasRun, HasStoppedRun, IsRun, whole_log, whole_outline}
+use Rattle.region_runner.specs.Answer.{HasRun, HasStoppedRun, IsEndedRun, whole_handed, whole_outline}
 use Rattle.run_command.specs.declared.outcome.Outcome.TheVariants as came
 use Rattle.run_command.specs.Outcomes.{unkernelled, unwritten}
-use Rattle.run_command.specs.Run.{AreLeftLogs, AreRunLogs, AreStopped, CameOut, CanRun, EndedRun, EndsSo, IsCrowded, IsLeftLog, IsTornLog, LeavesPart, StoppedRun, told_log}
+use Rattle.run_command.specs.Run.{AreLeftLogs, AreRunLogs, AreStopped, CameOut, CanRun, EndedRun, EndsSo, IsCrowded, IsLeftLog, IsTornLog, IsWholeRun, LeavesPart, StoppedRun, told_log}
 use Rattle.run_command.specs.Run as left
 use Rattle.run_command.specs.Told.{told_stop}
 use Rattle.run_command.specs.Seals.{AllTell, RaiseFaults, SealsAll, StoresAll, StoresPrefix, StoresPart, all_logged, prefix, part, row_of_entry, rows_of_logs, with_index}
 use Rattle.run_command.proofs.IndexKept.{IsOfFolder, prefix_keeps_index}
-use Rattle.run_command.proofs.RunFolder.{left_by, run_well_formed}
+use Rattle.run_command.proofs.RunFolder.{left_by}
 use Rattle.run_command.proofs.RunSums.{records_counted}
 use Rattle.run_command.proofs.StoredRun.{rows-logged}
+use Rattle.run_command.proofs.WholeRuns.{whole_run}
 
 -- ---- a run that ended
 
 -- the rows of a whole run's logs
-whole_rows : (dir : List ℕ) (size : ℕ) (root : Option Text) (tasks : Trace) → rows_of_logs (map (whole_log dir size root) tasks) ≡ rows_of tasks
-whole_rows dir size root tasks = map-map (λ (log : HandedLog). record { path = log.task; records = log.count }) (whole_log dir size root) tasks
+whole_rows : (dir : List ℕ) (size : ℕ) (root : Option Text) (tasks : Trace) → rows_of_logs (map (whole_handed dir size root) tasks) ≡ rows_of tasks
+whole_rows dir size root tasks = map-map (λ (log : HandedLog). record { path = log.task; records = log.count }) (whole_handed dir size root) tasks
 
 -- each is of the folder and tells what it holds
-whole_tell : (dir : List ℕ) (size : ℕ) (root : Text) (tasks : Trace) → AllTell dir (map (whole_log dir size (Some root)) tasks)
-whole_tell dir size root tasks = All-map (IsOwnLog dir true) (whole_log dir size (Some root)) tasks (λ k d within. record { dir_is = refl; path_is = refl; tells_so = refl })
+whole_tell : (dir : List ℕ) (size : ℕ) (root : Text) (tasks : Trace) → AllTell dir (map (whole_handed dir size (Some root)) tasks)
+whole_tell dir size root tasks = All-map (IsOwnLog dir true) (whole_handed dir size (Some root)) tasks (λ k d within. record { dir_is = refl; path_is = refl; tells_so = refl })
 
 -- logs that tell what they hold are of the folder
 own_dirs : (dir : List ℕ) (all : List HandedLog) → AllTell dir all → All (IsOfFolder dir) all
@@ -86,10 +88,13 @@ kernel_refused rose file dir size content (kernel.Refused line why) fault = (fau
 kernel_refused rose file dir size content (kernel.Trouble trouble.Failed) told = refl
 kernel_refused rose file dir size content (kernel.Trouble trouble.Memory) told = left.nothing refl
 
-module _ (rose : Type 0) (file dir : List ℕ) (size : ℕ) (root : Text) (program : Program) (tasks : Trace) (words : List ℕ) (run : IsRun program tasks words) where
+module _ (rose : Type 0) (file dir : List ℕ) (size : ℕ) (root : Text) (program : Program) (tasks : Trace) (words : List ℕ) (run : IsEndedRun program tasks words) where
+  abbrev whole : IsWholeRun program tasks words
+  whole = whole_run program tasks words run
+
   -- the logs that the run answers
   abbrev run_logs : List HandedLog
-  run_logs = map (whole_log dir size (Some root)) tasks
+  run_logs = map (whole_handed dir size (Some root)) tasks
 
   -- a folder with all logs and the whole index
   all_left : (old : Content) → with_index dir run_logs (index_bytes FORMAT (rows_of_logs run_logs)) old ≡ left_by program dir size tasks words run old
@@ -98,9 +103,9 @@ module _ (rose : Type 0) (file dir : List ℕ) (size : ℕ) (root : Text) (progr
   -- what is left where storing the run was refused
   part_left : (old new : Content) → CanRun old.held file dir program → StoresPart dir run_logs old new → LeavesPart rose file dir size old new
   part_left old new can (part sealed) =
-      left.logs program can run_logs (left.ended tasks words run refl) sealed (prefix_keeps_index dir run_logs old new (own_dirs dir run_logs (whole_tell dir size root tasks)) sealed ∙ can.fresh)
+      left.logs program can run_logs (left.ended tasks words whole refl) sealed (prefix_keeps_index dir run_logs old new (own_dirs dir run_logs (whole_tell dir size root tasks)) sealed ∙ can.fresh)
   part_left old new can (prefix bytes rest parts leaves) =
-      left.index program can tasks words run bytes rest (ap (index_bytes FORMAT) (sym (whole_rows dir size (Some root) tasks)) ∙ parts) leaves
+      left.index program can tasks words whole bytes rest (ap (index_bytes FORMAT) (sym (whole_rows dir size (Some root) tasks)) ∙ parts) leaves
 
   -- storing the run was refused
   refused_ends : (old new : Option Content) (t : fault.Trouble) → StoresPrefix dir run_logs old new → EndsSo rose file dir size program old new (unwritten t)
@@ -116,11 +121,10 @@ module _ (rose : Type 0) (file dir : List ℕ) (size : ℕ) (root : Text) (progr
       record {
         can = can;
         tasks = tasks;
-        run = run;
+        run = whole;
         count_is = counted;
         records_are = summed;
         leaves = leaves;
-        well_formed = λ place bad. run_well_formed program dir size tasks words run c place (subst (λ (n : Content). IsBad FORMAT n.held dir place) leaves bad);
       }
 
 -- the same of the logs that a run answered
@@ -140,7 +144,7 @@ module _ (rose : Type 0) (file dir : List ℕ) (size : ℕ) (root : Text) (progr
 -- ---- a kernel that stopped
 
 -- the log of a task as it is handed on
-abbrev log_of : Entry → HandedLog
+abbrev log_of : HandedEntry → HandedLog
 log_of e = record { task = e.task; dir = e.dir; path = e.path; told = outline e.text; count = e.count }
 
 -- a log tells its outline where it tells its text
@@ -149,14 +153,14 @@ outline_told None is = is
 outline_told (Some text) is = refl
 
 -- a stop that is told is no trouble
-told_no_trouble : (why : Stop) (told : ℕ × List ℕ) → told_stop why ≡ Some told → handed.IsTrouble why → ⊥
+told_no_trouble : (why : Stop) (told : ℕ × StopWhy) → told_stop why ≡ Some told → handed.IsTrouble why → ⊥
 told_no_trouble (DivZero line) told is trouble = trouble
 told_no_trouble (Index line) told is trouble = trouble
 told_no_trouble (LogFull line) told is trouble = trouble
 told_no_trouble (Tasks line) told is trouble = trouble
 told_no_trouble (Trouble t) told is trouble = none-some told is
 
-module _ (rose : Type 0) (dir : List ℕ) (size : ℕ) (path : List Step) (why : Stop) (told : ℕ × List ℕ) (is_told : told_stop why ≡ Some told) where
+module _ (rose : Type 0) (dir : List ℕ) (size : ℕ) (path : List Step) (why : Stop) (told : ℕ × StopWhy) (is_told : told_stop why ≡ Some told) where
   -- where the logs are, and how the run stopped
   abbrev here : LogPlace
   here = record { dir = dir; size = size; tells = true }
@@ -168,8 +172,8 @@ module _ (rose : Type 0) (dir : List ℕ) (size : ℕ) (path : List Step) (why :
   no_memory is = none-some told (sym (ap told_stop is) ∙ is_told)
 
   -- a log that keeps what its task put
-  kept_log : (task : TaskLog) (e : Entry) → IsEntryOf here stop task.path task.records e → (0 < e.faults → rose) → (text : Text) → e.text ≡ Some text
-      → Keeps stop task.path task.records size e.faults text → IsLeftLog rose dir size path task (log_of e)
+  kept_log : (task : TaskLog) (e : HandedEntry) → IsEntryOf here stop task.path task.records e → (0 < e.faults → rose) → (text : Text) → e.text ≡ Some text
+      → KeepsRecords stop task.path task.records size e.faults text → IsLeftLog rose dir size path task (log_of e)
   kept_log task e is raise text tells (handed.whole all) =
       let whole : outline e.text ≡ Some (whole_outline size task.records) = ap outline tells ∙ ap Some (outline_is all) in
       left.whole (λ i. record { task = is.task i; dir = is.dir i; path = is.own i; told = whole i; count = is.count i })
@@ -188,35 +192,35 @@ module _ (rose : Type 0) (dir : List ℕ) (size : ℕ) (path : List Step) (why :
       })
 
   -- by whether it tells its text, which it does
-  left_log : (task : TaskLog) (e : Entry) → IsEntryOf here stop task.path task.records e → (0 < e.faults → rose) → (text : Option Text) → e.text ≡ text → IsLeftLog rose dir size path task (log_of e)
+  left_log : (task : TaskLog) (e : HandedEntry) → IsEntryOf here stop task.path task.records e → (0 < e.faults → rose) → (text : Option Text) → e.text ≡ text → IsLeftLog rose dir size path task (log_of e)
   left_log task e is raise None none = absurd (true≢false (sym (ap is_some (sym none) ∙ is.tells)))
   left_log task e is raise (Some text) tells = kept_log task e is raise text tells (is.keeps text tells)
 
   -- all logs
-  left_logs : (tasks : Trace) (entries : List Entry) → AreEntriesOf here stop tasks entries → All (λ (e : Entry). 0 < e.faults → rose) entries → AreLeftLogs rose dir size path tasks (map log_of entries)
+  left_logs : (tasks : Trace) (entries : List HandedEntry) → AreEntriesOf here stop tasks entries → All (λ (e : HandedEntry). 0 < e.faults → rose) entries → AreLeftLogs rose dir size path tasks (map log_of entries)
   left_logs _ _ AreEntriesOf.no_task raise = left.no_task
   left_logs _ _ (AreEntriesOf.given task tasks e entries is rest) raise =
-      left.next task tasks (log_of e) (map log_of entries) (left_log task e is (All-head (λ (e : Entry). 0 < e.faults → rose) e entries raise) e.text refl)
-      (left_logs tasks entries rest (All-tail (λ (e : Entry). 0 < e.faults → rose) e entries raise))
+      left.next task tasks (log_of e) (map log_of entries) (left_log task e is (All-head (λ (e : HandedEntry). 0 < e.faults → rose) e entries raise) e.text refl)
+      (left_logs tasks entries rest (All-tail (λ (e : HandedEntry). 0 < e.faults → rose) e entries raise))
   left_logs _ _ (AreEntriesOf.missing task tasks entries memory rest) raise = absurd (no_memory memory)
 
   -- they are of the folder and tell what they hold
-  logs_tell : (tasks : Trace) (entries : List Entry) → AreEntriesOf here stop tasks entries → AllTell dir (map log_of entries)
+  logs_tell : (tasks : Trace) (entries : List HandedEntry) → AreEntriesOf here stop tasks entries → AllTell dir (map log_of entries)
   logs_tell _ _ AreEntriesOf.no_task = All-nil (IsOwnLog dir true)
   logs_tell _ _ (AreEntriesOf.given task tasks e entries is rest) =
       All-cons (IsOwnLog dir true) (log_of e) (map log_of entries) (record { dir_is = is.dir; path_is = is.own ∙ sym is.task; tells_so = outline_told e.text is.tells }) (logs_tell tasks entries rest)
   logs_tell _ _ (AreEntriesOf.missing task tasks entries memory rest) = absurd (no_memory memory)
 
   -- the tasks are those of the logs
-  entry_paths : (tasks : Trace) (entries : List Entry) → AreEntriesOf here stop tasks entries → map (λ (e : Entry). e.task) entries ≡ paths_of tasks
+  entry_paths : (tasks : Trace) (entries : List HandedEntry) → AreEntriesOf here stop tasks entries → map (λ (e : HandedEntry). e.task) entries ≡ paths_of tasks
   entry_paths _ _ AreEntriesOf.no_task = refl
   entry_paths _ _ (AreEntriesOf.given task tasks e entries is rest) = let later = entry_paths tasks entries rest in λ i. is.task i ∷ later i
   entry_paths _ _ (AreEntriesOf.missing task tasks entries memory rest) = absurd (no_memory memory)
 
 -- too many tasks are below one, told of the paths alone
-crowded_paths : (path : List Step) (entries : List Entry) (paths : List (List Step)) → map (λ (e : Entry). e.task) entries ≡ paths → HasCrowdedTask path entries → IsCrowded path paths
+crowded_paths : (path : List Step) (entries : List HandedEntry) (paths : List (List Step)) → map (λ (e : HandedEntry). e.task) entries ≡ paths → HasCrowdedTask path entries → IsCrowded path paths
 crowded_paths path entries paths same has =
-    let task : Entry → List Step = λ (e : Entry). e.task in
+    let task : HandedEntry → List Step = λ (e : HandedEntry). e.task in
     let parts : map task (has.own ∷ (has.below ++ has.after)) ≡ path ∷ (map task has.below ++ map task has.after) = (let below = map-append task has.below has.after in λ i. has.task i ∷ below i) in
     record {
       before = map task has.before;
@@ -227,13 +231,13 @@ crowded_paths path entries paths same has =
       many = let many = has.many in omega (arith, length-map has.below task);
     }
 
-module _ (rose : Type 0) (file dir : List ℕ) (size : ℕ) (root : Text) (program : Program) (entries : List Entry) (path : List Step) (why : Stop) (words : List ℕ)
-    (has : HasStoppedRun program dir size (Some root) entries path why words) (line : ℕ) (name : List ℕ) (is_told : told_stop why ≡ Some (line, name)) (raise : All (λ (e : Entry). 0 < e.faults → rose) entries) where
+module _ (rose : Type 0) (file dir : List ℕ) (size : ℕ) (root : Text) (program : Program) (entries : List HandedEntry) (path : List Step) (why : Stop) (words : List ℕ)
+    (has : HasStoppedRun program dir size (Some root) entries path why words) (line : ℕ) (reason : StopWhy) (is_told : told_stop why ≡ Some (line, reason)) (raise : All (λ (e : HandedEntry). 0 < e.faults → rose) entries) where
   abbrev stop_logs : List HandedLog
   stop_logs = map log_of entries
 
   -- what the logs are of
-  are_stopped : AreStopped rose program dir size stop_logs path line name
+  are_stopped : AreStopped rose program dir size stop_logs path line reason
   are_stopped = record {
     why = why;
     told = is_told;
@@ -241,21 +245,21 @@ module _ (rose : Type 0) (file dir : List ℕ) (size : ℕ) (root : Text) (progr
     words = words;
     execution = has.execution;
     listed = has.listed;
-    logs_are = left_logs rose dir size path why (line, name) is_told has.tasks entries has.logs_are raise;
+    logs_are = left_logs rose dir size path why (line, reason) is_told has.tasks entries has.logs_are raise;
     stops = has.stops;
-    crowded = λ at is. crowded_paths path entries (paths_of has.tasks) (entry_paths rose dir size path why (line, name) is_told has.tasks entries has.logs_are)
+    crowded = λ at is. crowded_paths path entries (paths_of has.tasks) (entry_paths rose dir size path why (line, reason) is_told has.tasks entries has.logs_are)
         (has.tell.crowded path at (ap (λ (w : Stop). Some (path, w)) is));
   }
 
   all_tell : AllTell dir stop_logs
-  all_tell = logs_tell rose dir size path why (line, name) is_told has.tasks entries has.logs_are
+  all_tell = logs_tell rose dir size path why (line, reason) is_told has.tasks entries has.logs_are
 
   -- all logs were sealed
   stop_sealed : (old new : Option Content) → SealsAll stop_logs (Ok tt) old new → (c d : Content) → CanRun c.held file dir program → old ≡ Some c → new ≡ Some d
-      → StoppedRun rose file dir size c d path line name
+      → (p : Program) × StoppedRun rose file dir size c d p path line reason
   stop_sealed old new seals c d can is now =
       let sealed = seals dir c all_tell is in
-      record { program = program; can = can; logs = stop_logs; stopped = are_stopped; leaves = same_Some d sealed.content (sym now ∙ sealed.is) ∙ sealed.holds.done }
+      (program, record { can = can; logs = stop_logs; stopped = are_stopped; leaves = same_Some d sealed.content (sym now ∙ sealed.is) ∙ sealed.holds.done })
 
   -- one was refused
   stop_refused : (old new : Option Content) (t : fault.Trouble) → SealsAll stop_logs (Err t) old new → EndsSo rose file dir size program old new (unwritten t)
@@ -264,7 +268,7 @@ module _ (rose : Type 0) (file dir : List ℕ) (size : ℕ) (root : Text) (progr
       let same = same_Some sealed.content d (sym sealed.is ∙ now) in
       let first = subst (λ (n : Content). SealsPrefix stop_logs c n) same sealed.holds.prefix in
       unwritten_part rose file dir size c d t
-      (left.logs program can stop_logs (left.stopped path line name are_stopped) first (prefix_keeps_index dir stop_logs c d (own_dirs dir stop_logs all_tell) first ∙ can.fresh))
+      (left.logs program can stop_logs (left.stopped path line reason are_stopped) first (prefix_keeps_index dir stop_logs c d (own_dirs dir stop_logs all_tell) first ∙ can.fresh))
 
 -- the same of the logs as they are answered
 module _ {L : Type 0} (dir_of : L → List ℕ) (path_of : L → List Step) (text_of : L → Option Text) (faults_of : L → ℕ) (entries : List (ClosedLog L)) where
@@ -275,22 +279,22 @@ module _ {L : Type 0} (dir_of : L → List ℕ) (path_of : L → List Step) (tex
   logs_same = map-map log_of (entry_of seen) entries
 
   module _ (rose : Type 0) (raise : RaiseFaults faults_of entries rose) where
-    raise_entries : All (λ (e : Entry). 0 < e.faults → rose) (entries_of seen entries)
-    raise_entries = All-map (λ (e : Entry). 0 < e.faults → rose) (entry_of seen) entries raise
+    raise_entries : All (λ (e : HandedEntry). 0 < e.faults → rose) (entries_of seen entries)
+    raise_entries = All-map (λ (e : HandedEntry). 0 < e.faults → rose) (entry_of seen) entries raise
 
     -- a log that counts a fault is among them
     pub faulty_rose : (path : List Step) → HasFaultyLog path (entries_of seen entries) → rose
-    faulty_rose path has = let (k, within, is) = has.is in subst (λ (e : Entry). 0 < e.faults → rose) is (raise_entries k has.log within) has.faulty
+    faulty_rose path has = let (k, within, is) = has.is in subst (λ (e : HandedEntry). 0 < e.faults → rose) is (raise_entries k has.log within) has.faulty
 
     module _ (file dir : List ℕ) (size : ℕ) (root : Text) (program : Program) (path : List Step) (why : Stop) (words : List ℕ)
-        (has : HasStoppedRun program dir size (Some root) (entries_of seen entries) path why words) (line : ℕ) (name : List ℕ) (is_told : told_stop why ≡ Some (line, name)) where
+        (has : HasStoppedRun program dir size (Some root) (entries_of seen entries) path why words) (line : ℕ) (reason : StopWhy) (is_told : told_stop why ≡ Some (line, reason)) where
       pub stopped_ends : (old new : Option Content) → SealsAll (all_logged dir_of path_of text_of entries) (Ok tt) old new → (c d : Content) → CanRun c.held file dir program → old ≡ Some c
-          → new ≡ Some d → StoppedRun rose file dir size c d path line name
+          → new ≡ Some d → (p : Program) × StoppedRun rose file dir size c d p path line reason
       stopped_ends old new seals =
-          stop_sealed rose file dir size root program (entries_of seen entries) path why words has line name is_told raise_entries old new
+          stop_sealed rose file dir size root program (entries_of seen entries) path why words has line reason is_told raise_entries old new
           (subst (λ (logs : List HandedLog). SealsAll logs (Ok tt) old new) (sym logs_same) seals)
 
       pub unsealed_ends : (old new : Option Content) (t : fault.Trouble) → SealsAll (all_logged dir_of path_of text_of entries) (Err t) old new → EndsSo rose file dir size program old new (unwritten t)
       unsealed_ends old new t seals =
-          stop_refused rose file dir size root program (entries_of seen entries) path why words has line name is_told raise_entries old new t
+          stop_refused rose file dir size root program (entries_of seen entries) path why words has line reason is_told raise_entries old new t
           (subst (λ (logs : List HandedLog). SealsAll logs (Err t) old new) (sym logs_same) seals)

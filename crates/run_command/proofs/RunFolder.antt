@@ -24,7 +24,7 @@ use Rattle.kernel_syntax.specs.Program.{Program}
 use Rattle.kernel_model.specs.Folder.{lane_start, own_trace, paths_of, root_start, start_at, start_below}
 use Rattle.kernel_model.specs.State.{Fork}
 use Rattle.kernel_model.specs.Trace.{Start}
-use Rattle.region_runner.specs.Answer.{IsRun, whole_outline}
+use Rattle.region_runner.specs.Answer.{IsEndedRun, whole_outline}
 use Rattle.run_command.specs.Run.{told_log}
 
 -- ---- names that were sealed
@@ -150,7 +150,7 @@ module _ (program : Program) (logs : Logs) where
 has_place : (step : Step) → IsStep step → HasPlace step
 has_place step is = let region = is.region in let lane = is.lane in let span = is.span.limit in (omega arith, omega arith)
 
-module _ (program : Program) (dir : List ℕ) (size : ℕ) (tasks : Trace) (words : List ℕ) (run : IsRun program tasks words) where
+module _ (program : Program) (dir : List ℕ) (size : ℕ) (tasks : Trace) (words : List ℕ) (run : IsEndedRun program tasks words) where
   -- each has a name that tells it
   all_named : All (λ (task : TaskLog). IsNamed program (logs_of tasks) task.path) tasks
   all_named k d within = record {

@@ -6,13 +6,14 @@ use Rattle.sw_base.specs.Environment.{Content, Files}
 use Rattle.sw_base.specs.Names.{index_name}
 use Rattle.kernel_syntax.specs.Program.{Program}
 use Rattle.kernel_reader.specs.KernelOf.{IsKernelOf}
+use Rattle.kernel_file.specs.Due as file
+use Rattle.kernel_file.specs.Due.{KernelDue}
 use Rattle.kernel_file.specs.Holding.{HoldsKernel}
 use Rattle.command_answer.specs.Answer.{IsFailure, Tries}
 use Rattle.command_answer.specs.declared.status.TheConstants.{DONE, INDEX_THERE, KERNEL_REFUSED, KERNEL_STOPPED}
 use Rattle.run_command.specs.declared.outcome.Outcome.{Outcome}
-use Rattle.run_command.specs.declared.outcome.Outcome.TheVariants.{NoKernel, Refused, IndexThere, Stopped, Ran, ReadFault, WriteFault, NoMemory}
 use Rattle.run_command.specs.Outcomes.{IsDue, due_status}
-use Rattle.run_command.specs.Run.{CameOut, CanBegin, HasIndex, HoldsNoKernel, RunDue, TellsFiles, no_file, no_kernel}
+use Rattle.run_command.specs.Run.{HasIndex, HoldsNoKernel, MayStart, RunAnswer, RunDue, TellsFiles, ended_so, index_there, no_file, no_kernel, stopped_so}
 
 module _ (files : Files) (kernel dir : List ℕ) where
   -- a file holds a kernel or none
@@ -22,7 +23,7 @@ module _ (files : Files) (kernel dir : List ℕ) where
       fault.none program (subst (λ (text : List ℕ). IsKernelOf text program) (same_Some holds.text fault.text (sym holds.held ∙ fault.held)) holds.kernel)
 
   -- a folder has an index or none
-  begins_fresh : HasIndex files kernel dir → CanBegin files kernel dir → ⊥
+  begins_fresh : HasIndex files kernel dir → MayStart files kernel dir → ⊥
   begins_fresh has can = true≢false (sym has.there ∙ ap is_some can.1.fresh)
 
   refused_tells : (status : ℕ) → status ≡ KERNEL_REFUSED → HoldsNoKernel files kernel → TellsFiles files kernel dir status
@@ -39,7 +40,7 @@ module _ (files : Files) (kernel dir : List ℕ) where
     began = (λ ended. elim ended [ inl done ↦ absurd (cc) | inr stopped ↦ absurd (cc) ], λ can. absurd (begins_fresh has can));
   }
 
-  began_tells : (status : ℕ) → (status ≡ DONE) ⊎ (status ≡ KERNEL_STOPPED) → CanBegin files kernel dir → TellsFiles files kernel dir status
+  began_tells : (status : ℕ) → (status ≡ DONE) ⊎ (status ≡ KERNEL_STOPPED) → MayStart files kernel dir → TellsFiles files kernel dir status
   began_tells status is can = record {
     refused = (λ refused. elim is [ inl done ↦ absurd (cc) | inr stopped ↦ absurd (cc) ], λ none. absurd (apart can.0 none can.1.holds));
     indexed = (λ there. elim is [ inl done ↦ absurd (cc) | inr stopped ↦ absurd (cc) ], λ has. absurd (begins_fresh has can));
@@ -47,19 +48,19 @@ module _ (files : Files) (kernel dir : List ℕ) where
   }
 
 module _ (rose : Type 0) (kernel dir : List ℕ) (size : ℕ) (old new : Content) (status : ℕ) (text : List ℕ) where
-  came_tells : (outcome : Outcome) → CameOut rose kernel dir size old new outcome → IsDue outcome status text → TellsFiles old.held kernel dir status
-  came_tells NoKernel came due = refused_tells old.held kernel dir status due.status_is (no_file came.0)
-  came_tells (Refused line why) came due = refused_tells old.held kernel dir status due.status_is (no_kernel line why came.0)
-  came_tells IndexThere came due = indexed_tells old.held kernel dir status due.status_is came.0
-  came_tells (Stopped path line why) came due = began_tells old.held kernel dir status (inr due.status_is) (came.program, came.can)
-  came_tells (Ran k tasks records words) came due = began_tells old.held kernel dir status (inl due.status_is) (_, came.can)
-  came_tells ReadFault came due = absurd (none-some text due.text_is)
-  came_tells WriteFault came due = absurd (none-some text due.text_is)
-  came_tells NoMemory came due = absurd (none-some text due.text_is)
+  answer_tells : (program : Program) → HoldsKernel old.held kernel program → RunAnswer rose kernel dir size old new program status text → TellsFiles old.held kernel dir status
+  answer_tells program holds (index_there there same is _) = indexed_tells old.held kernel dir status is (record { program = program; holds = holds; there = there })
+  answer_tells program holds (stopped_so path line name run is _) = began_tells old.held kernel dir status (inr is) (program, run.can)
+  answer_tells program holds (ended_so count records words run is _) = began_tells old.held kernel dir status (inl is) (program, run.can)
+
+  kernel_tells : KernelDue (RunAnswer rose kernel dir size old new) old.held kernel status text → TellsFiles old.held kernel dir status
+  kernel_tells (file.no_kernel none is _) = refused_tells old.held kernel dir status is (no_file none)
+  kernel_tells (file.refused_kernel line why fault is _) = refused_tells old.held kernel dir status is (no_kernel line why fault)
+  kernel_tells (file.of_kernel program holds answer) = answer_tells program holds answer
 
   -- the status that is due tells what the files hold
   pub due_tells : RunDue rose kernel dir size old new status text → TellsFiles old.held kernel dir status
-  due_tells due = came_tells due.outcome due.came due.due
+  due_tells run = kernel_tells run.due
 
 -- with status 0 the outcome is a run that ended
 pub done_so : (outcome : Outcome) (old new : Option (List ℕ)) (status : ℕ) → Tries (IsDue outcome) old new status → status ≡ DONE → due_status outcome ≡ DONE

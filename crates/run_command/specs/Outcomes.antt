@@ -4,6 +4,7 @@ use Rattle.sw_base.specs.declared.trouble.Trouble.{Trouble}
 use Rattle.sw_base.specs.declared.trouble.Trouble.TheVariants as trouble
 use Rattle.kernel_file.specs.declared.reading.KernelRefusal.{KernelRefusal}
 use Rattle.kernel_file.specs.declared.reading.KernelRefusal.TheVariants as kernel
+use Rattle.kernel_model.specs.Stopping.{stop_name}
 use Rattle.kernel_file.specs.Refusing.{no_kernel_text, refused_text}
 use Rattle.command_answer.specs.Texts.{index_exists_text}
 use Rattle.command_answer.specs.declared.status.TheConstants.{DONE, KERNEL_REFUSED, KERNEL_STOPPED, INDEX_THERE, READ_FAULT, WRITE_FAULT, NO_MEMORY}
@@ -12,9 +13,9 @@ use Rattle.run_command.specs.declared.outcome.Outcome.TheVariants.{NoKernel, Ref
 use Rattle.command_answer.specs.RunTexts.{stop_line, run_text}
 
 -- after a read that failed
-abbrev pub unread : Trouble → Outcome
-unread trouble.Failed = ReadFault
-unread trouble.Memory = NoMemory
+abbrev pub after_failed_read : Trouble → Outcome
+after_failed_read trouble.Failed = ReadFault
+after_failed_read trouble.Memory = NoMemory
 
 -- after a write that failed
 abbrev pub unwritten : Trouble → Outcome
@@ -25,7 +26,7 @@ unwritten trouble.Memory = NoMemory
 abbrev pub unkernelled : KernelRefusal → Outcome
 unkernelled kernel.NoKernel = NoKernel
 unkernelled (kernel.Refused line why) = Refused line why
-unkernelled (kernel.Trouble trouble) = unread trouble
+unkernelled (kernel.Trouble trouble) = after_failed_read trouble
 
 -- the status with which it is answered
 abbrev pub due_status : Outcome → ℕ
@@ -43,7 +44,7 @@ abbrev pub due_text : Outcome → Option (List ℕ)
 due_text NoKernel = Some no_kernel_text
 due_text (Refused line why) = Some (refused_text line why)
 due_text IndexThere = Some index_exists_text
-due_text (Stopped path line why) = Some (stop_line path line why.now)
+due_text (Stopped path line why) = Some (stop_line path line (stop_name why))
 due_text (Ran kernel tasks records words) = Some (run_text tasks records kernel.arrays words.items)
 due_text ReadFault = None
 due_text WriteFault = None

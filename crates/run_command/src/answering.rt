@@ -1,5 +1,5 @@
 //! What is printed of what came out of a run, and with which status.
-ghost use Rattle.std.specs.Prelude.{◌≡◌, ◌⊎◌};
+ghost use Rattle.std.specs.Prelude.{◌≡◌, ◌⊎◌, ◌↔◌};
 ghost use Rattle.sw_base.specs.Environment.{Rose};
 ghost use Rattle.command_answer.specs.Answer.{Tries};
 ghost use Rattle.command_answer.specs.declared.status.TheConstants.{READ_FAULT, USAGE, WRITE_FAULT};
@@ -21,7 +21,7 @@ const INDEX_EXISTS: &[u8] = b"index exists\n";
 pub fn print_outcome<O: Out>(alloc: Global, out: &mut O, outcome: &Outcome) -> u8
     ensures prints { Tries (IsDue outcome.now) (O.written out.old) (O.written out.new) result }
     ensures write_fault { result ≡ WRITE_FAULT → (outcome.now ≡ came.WriteFault) ⊎ Rose (O.faults out.old) (O.faults out.new) }
-    ensures read_fault { result ≡ READ_FAULT → outcome.now ≡ came.ReadFault }
+    ensures read_fault { (result ≡ READ_FAULT) ↔ (outcome.now ≡ came.ReadFault) }
     ensures no_usage { result ≡ USAGE → ⊥ }
 {
     match outcome {
@@ -41,7 +41,7 @@ pub fn print_outcome<O: Out>(alloc: Global, out: &mut O, outcome: &Outcome) -> u
             print_made(
                 alloc,
                 out,
-                stop_line(alloc, path, *line, why),
+                stop_line(alloc, path, *line, why.name()),
                 KERNEL_STOPPED,
             )
         }

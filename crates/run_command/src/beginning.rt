@@ -1,6 +1,7 @@
 //! What `run` reads before a kernel runs.
-ghost use Rattle.std.specs.Prelude.{◌≡◌, ℕ, IfOk, IfErr};
+ghost use Rattle.std.specs.Prelude.{◌≡◌, ℕ, IfOk, IfErr, IsErrOf};
 ghost use Rattle.sw_base.specs.Environment.{Rose, WhereTold};
+ghost use Rattle.sw_base.specs.OnlyReads.{OnlyReads};
 ghost use Rattle.kernel_syntax.specs.Program.{program_of};
 ghost use Rattle.kernel_model.specs.Lawful.{IsLawful};
 ghost use Rattle.run_command.specs.Run.{CameOut, CanRun};
@@ -22,8 +23,7 @@ pub fn begin<F: Folder>(
     ensures lawful { IfOk result (λ k. IsLawful (program_of k)) }
     ensures can { IfOk result (λ k. WhereTold (F.state folder.old).content (λ c. CanRun c.held kernel.now dir.now (program_of k))) }
     ensures came { IfErr result (λ o. WhereTold (F.state folder.old).content (λ c. (size before after : ℕ) → CameOut (Rose before after) kernel.now dir.now size c c o)) }
-    ensures same { F.state folder.new ≡ F.state folder.old }
-    ensures cause { IfErr result (λ o. o ≡ outcome.ReadFault → Rose (F.read_faults folder.old) (F.read_faults folder.new)) }
+    ensures reads { OnlyReads F.Folder folder.old folder.new (IsErrOf result outcome.ReadFault) }
     ensures no_write { IfErr result (λ o. o ≡ outcome.WriteFault → ⊥) }
 {
     let kernel = read_kernel_file(alloc, folder, kernel)?;

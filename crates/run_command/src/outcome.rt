@@ -1,6 +1,7 @@
 //! What comes out of a run.
 
 use kernel_file::KernelRefusal;
+use kernel_model::StopWhy;
 use kernel_syntax::Kernel;
 use kernel_text::KernelWhy;
 use sw_base::{Memory, Path, Trouble};
@@ -21,7 +22,7 @@ pub enum Outcome {
     Stopped {
         path: Path,
         line: u32,
-        why: &'static str,
+        why: StopWhy,
     },
     /// The run of the kernel ended with so many tasks, so many records in all, and these values of its elements. Its logs and their index are
     /// there.
@@ -41,9 +42,9 @@ pub enum Outcome {
 
 impl From<Trouble> for Outcome {
     ghost use Rattle.std.specs.Prelude.{◌≡◌};
-    ghost use Rattle.run_command.specs.Outcomes.{unread};
+    ghost use Rattle.run_command.specs.Outcomes.{after_failed_read};
 
-    ghost from_gives = { λ trouble o. o ≡ unread trouble };
+    ghost from_gives = { λ trouble o. o ≡ after_failed_read trouble };
 
     /// After a read.
     fn from(trouble: Trouble) -> Self {

@@ -18,6 +18,7 @@ ghost use Rattle.run_command.specs.declared.outcome.Outcome.TheVariants as outco
 use crate::beginning::begin;
 use crate::outcome::Outcome;
 use crate::sealing::{discard_all, records_in, seal_all, store};
+use kernel_model::StopWhy;
 use kernel_syntax::Kernel;
 use lane_runner::Stop;
 use region_runner::{Finished, Stopped, run_in_teams};
@@ -56,6 +57,7 @@ fn finish<F: Folder>(
     ensures no_fault { AreFaultless F.Log.faults finished.logs.items → due_status result ≡ DONE → (F.state folder.new).write_faults ≡ (F.state folder.old).write_faults }
     ensures no_read { result ≡ outcome.ReadFault → ⊥ }
     ensures same_roots { (F.state folder.new).roots ≡ (F.state folder.old).roots }
+    ensures same_reads { F.read_faults folder.new ≡ F.read_faults folder.old }
 {
     let Finished { logs, words } = finished;
     match store(alloc, folder, dir, logs) {
@@ -69,15 +71,15 @@ fn finish<F: Folder>(
     }
 }
 
-/// The line of a stop and its name, or the trouble that it was.
-fn told(why: Stop) -> Result<(u32, &'static str), Trouble>
-    ensures { MatchResult result (λ told. told_stop why ≡ Some (told.0, told.1.now)) (λ trouble. why ≡ stop.Trouble trouble) }
+/// The line of a stop and why the task stops, or the trouble that it was.
+fn told(why: Stop) -> Result<(u32, StopWhy), Trouble>
+    ensures { MatchResult result (λ told. told_stop why ≡ Some told) (λ trouble. why ≡ stop.Trouble trouble) }
 {
     match why {
-        Stop::DivZero { line } => Ok((line, "DivZero")),
-        Stop::Index { line } => Ok((line, "Index")),
-        Stop::LogFull { line } => Ok((line, "LogFull")),
-        Stop::Tasks { line } => Ok((line, "Tasks")),
+        Stop::DivZero { line } => Ok((line, StopWhy::DivZero)),
+        Stop::Index { line } => Ok((line, StopWhy::Index)),
+        Stop::LogFull { line } => Ok((line, StopWhy::LogFull)),
+        Stop::Tasks { line } => Ok((line, StopWhy::Tasks)),
         Stop::Trouble(trouble) => Err(trouble),
     }
 }
@@ -95,6 +97,7 @@ fn stop<F: Folder>(alloc: Global, stopped: Stopped<F::Log>, folder: &mut F) -> O
     ensures not_done { due_status result ≡ DONE → ⊥ }
     ensures no_read { result ≡ outcome.ReadFault → ⊥ }
     ensures same_roots { (F.state folder.new).roots ≡ (F.state folder.old).roots }
+    ensures same_reads { F.read_faults folder.new ≡ F.read_faults folder.old }
 {
     let Stopped {
         path,
@@ -134,6 +137,7 @@ fn execute<R: Threads + Wait + Sync + Copy + Send + 'static, F: Folder, G: Gate>
     ensures no_fault { due_status result ≡ DONE → (F.state folder.new).write_faults ≡ (F.state folder.old).write_faults }
     ensures no_read { result ≡ outcome.ReadFault → ⊥ }
     ensures asks_once { (F.state folder.new).roots ≡ next_count (F.state folder.old).roots }
+    ensures same_reads { F.read_faults folder.new ≡ F.read_faults folder.old }
 {
     let root = match folder.root(alloc, dir) {
         Ok(root) => root,
@@ -164,6 +168,7 @@ pub fn run<R: Threads + Wait + Sync + Copy + Send + 'static, F: Folder, G: Gate>
     ensures tells { is_some (F.state folder.new).content ≡ is_some (F.state folder.old).content }
     ensures reads { result ≡ outcome.ReadFault → F.state folder.new ≡ F.state folder.old }
     ensures read_fault { result ≡ outcome.ReadFault → Rose (F.read_faults folder.old) (F.read_faults folder.new) }
+    ensures no_read_fault { (result ≡ outcome.ReadFault → ⊥) → F.read_faults folder.new ≡ F.read_faults folder.old }
     ensures write_fault { result ≡ outcome.WriteFault → Rose (F.state folder.old).write_faults (F.state folder.new).write_faults }
     ensures no_fault { due_status result ≡ DONE → (F.state folder.new).write_faults ≡ (F.state folder.old).write_faults }
     ensures only_runs_write { WhereTold (F.state folder.old).content (λ c. ((p : Program) → CanRun c.held kernel.now dir.now p → ⊥) → result ≡ outcome.WriteFault → ⊥) }

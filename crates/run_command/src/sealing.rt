@@ -23,6 +23,7 @@ fn seal_one<F: Folder>(alloc: Global, folder: &mut F, log: F::Log) -> Result<(),
     ensures cause { HasCause (F.state folder.old).write_faults (F.state folder.new).write_faults result }
     ensures no_fault { OnOk result (F.Log.faults log ≡ 0 → (F.state folder.new).write_faults ≡ (F.state folder.old).write_faults) }
     ensures same_roots { (F.state folder.new).roots ≡ (F.state folder.old).roots }
+    ensures same_reads { F.read_faults folder.new ≡ F.read_faults folder.old }
 {
     match folder.seal(alloc, log) {
         Ok(()) => Ok(()),
@@ -50,6 +51,7 @@ fn seal_next<F: Folder>(
     ensures cause { IsErrOf result Trouble.Failed → IsErrOf so_far Trouble.Failed ⊎ Rose (F.state folder.old).write_faults (F.state folder.new).write_faults }
     ensures no_fault { OnOk so_far (OnOk result (F.Log.faults log ≡ 0 → (F.state folder.new).write_faults ≡ (F.state folder.old).write_faults)) }
     ensures same_roots { (F.state folder.new).roots ≡ (F.state folder.old).roots }
+    ensures same_reads { F.read_faults folder.new ≡ F.read_faults folder.old }
 {
     match so_far {
         Ok(()) => seal_one(alloc, folder, log),
@@ -72,6 +74,7 @@ pub fn seal_all<F: Folder>(
     ensures cause { HasCause (F.state folder.old).write_faults (F.state folder.new).write_faults result }
     ensures no_fault { OnOk result (AreFaultless F.Log.faults logs.items → (F.state folder.new).write_faults ≡ (F.state folder.old).write_faults) }
     ensures same_roots { (F.state folder.new).roots ≡ (F.state folder.old).roots }
+    ensures same_reads { F.read_faults folder.new ≡ F.read_faults folder.old }
 {
     let mut outcome = Ok(());
     for ClosedLog { log, .. } in logs {
@@ -86,6 +89,7 @@ pub fn discard_all<F: Folder>(folder: &mut F, logs: Vec<ClosedLog<F::Log>>)
     ensures later { (F.state folder.old).write_faults ≤ (F.state folder.new).write_faults }
     ensures faulty { RaiseFaults F.Log.faults logs.items (Rose (F.state folder.old).write_faults (F.state folder.new).write_faults) }
     ensures same_roots { (F.state folder.new).roots ≡ (F.state folder.old).roots }
+    ensures same_reads { F.read_faults folder.new ≡ F.read_faults folder.old }
 {
     for ClosedLog { log, .. } in logs {
         folder.discard(log);
@@ -134,6 +138,7 @@ pub fn store<F: Folder>(
     ensures cause { HasCause (F.state folder.old).write_faults (F.state folder.new).write_faults result }
     ensures no_fault { OnOk result (AreFaultless F.Log.faults logs.items → (F.state folder.new).write_faults ≡ (F.state folder.old).write_faults) }
     ensures same_roots { (F.state folder.new).roots ≡ (F.state folder.old).roots }
+    ensures same_reads { F.read_faults folder.new ≡ F.read_faults folder.old }
 {
     let Ok(rows) = index_rows(alloc, &logs) else {
         discard_all(folder, logs);

@@ -1,6 +1,6 @@
 -- Going along a chain: what was handed over so far.
 use Rattle.std.proofs.Common.{◌≡◌, ◌⊎◌, inl, inr, ℕ, ◌+◌, ◌-◌, ◌<◌, ◌≤◌, List, [], ◌∷◌, ◌++◌, length, length-append, Option, Some, None, refl, sym, subst, arith}
-use Rattle.interval_tree.specs.Visits.{Takes}
+use Rattle.interval_tree.specs.Visits.{TakesEach}
 use Rattle.interval_tree.proofs.Taking.{Takes-append}
 use Rattle.segment_groups.specs.Level.{IsLeastNumber}
 use Rattle.segment_groups.specs.Partners.{AreAll}
@@ -20,7 +20,7 @@ pub record HasPassed {S : Type 0} (took : S → ℕ → S → Type 0) (P : ℕ �
   pub next : IsNext P cursor
   pub found : List ℕ
   pub all : AreAll (IsPassed P cursor) found
-  pub takes : Takes took before found now
+  pub takes : TakesEach took before found now
   pub steps : new ≡ old + length found
 
 pub passed_none : {S : Type 0} (took : S → ℕ → S → Type 0) (P : ℕ → Type 0) (cursor : Option ℕ) (before : S) (old : ℕ) → IsLeastNumber P cursor → HasPassed took P cursor before before old old

@@ -1,7 +1,7 @@
 -- What a search among runs finds.
 use Rattle.std.proofs.Common.{◌≡◌, ℕ, List, Bool, true, false, [], ◌∷◌, ◌++◌, inl, inr, sym, ap, ◌∙◌, subst, arith, cond}
 use Rattle.interval_tree.specs.Order.{met, reaches_into}
-use Rattle.interval_tree.specs.Visits.{Takes, TakesUpTo}
+use Rattle.interval_tree.specs.Visits.{TakesEach, TakesUpTo}
 use Rattle.interval_tree.proofs.Searching.{reaches_yes}
 use Rattle.stride_summary.specs.declared.run.Run.{Run}
 use Rattle.stride_summary.specs.Run.{last_byte}
@@ -23,7 +23,7 @@ one_more k0 k1 k2 a run runs first then = AddsPairs-both k0 k1 k2 (IsRunPair a (
     (λ p h. elim (OneHas-cons (IsLinesOf a) run runs p h) [ inl has ↦ inl (OneHas-first (IsLinesOf a) run [] p has) | inr later ↦ inr later ])
 
 -- the runs that were taken, one after another
-pub AddsPairs-taken : (before after : Finder) (runs : List Run) → Takes took before runs after → (after.run.now ≡ before.run.now) × AddsPairs before.pairs.keys after.pairs.keys (IsRunPair before.run.now runs)
+pub AddsPairs-taken : (before after : Finder) (runs : List Run) → TakesEach took before runs after → (after.run.now ≡ before.run.now) × AddsPairs before.pairs.keys after.pairs.keys (IsRunPair before.run.now runs)
 AddsPairs-taken before after [] same = (ap (λ (f : Finder). f.run.now) (sym same), subst (λ (f : Finder). AddsPairs before.pairs.keys f.pairs.keys (IsRunPair before.run.now [])) same (AddsPairs-none (IsLinesOf before.run.now) before.pairs.keys))
 AddsPairs-taken before after (run ∷ runs) (between, first, then) =
     let rest = AddsPairs-taken between after runs then in (
@@ -87,7 +87,7 @@ pair_met a lo hi (run ∷ runs) p h = at (pair_met a lo hi runs p) (reaches_into
     at rest false q = OneHas-later (IsLinesOf a) run runs p (rest q)
 
 -- what a search for a run added
-pub AddsPairs-found : (before after : Finder) (lo hi : ℕ) (runs : List Run) → lo ≡ before.run.now.base → hi ≡ last_byte before.run.now → Takes took before (met lo hi runs) after
+pub AddsPairs-found : (before after : Finder) (lo hi : ℕ) (runs : List Run) → lo ≡ before.run.now.base → hi ≡ last_byte before.run.now → TakesEach took before (met lo hi runs) after
     → AddsPairs before.pairs.keys after.pairs.keys (IsRunPair before.run.now runs)
 AddsPairs-found before after lo hi runs low high takes =
     let a = before.run.now in

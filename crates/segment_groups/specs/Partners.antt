@@ -1,7 +1,7 @@
 -- The partners of a segment, and handing them over.
 use Rattle.std.specs.Prelude.{◌≡◌, ◌↔◌, ℕ, ◌+◌, ◌<◌, List, length, Contains}
 use Rattle.std.specs.List.Sorted.{IsStrictlyIncreasing}
-use Rattle.interval_tree.specs.Visits.{Takes}
+use Rattle.interval_tree.specs.Visits.{TakesEach}
 use Rattle.race_model.specs.Label.{IsConcurrent}
 use Rattle.log_segment.specs.declared.segment.Segment.{Segment}
 use Rattle.segment_groups.specs.Group.{label_at}
@@ -21,7 +21,7 @@ pub record AreAll (P : ℕ → Type 0) (found : List ℕ) : Type 0 where
 pub record HandsOver {S : Type 0} (took : S → ℕ → S → Type 0) (P : ℕ → Type 0) (before after : S) (old new : ℕ) : Type 0 where
   pub found : List ℕ
   pub all : AreAll P found
-  pub takes : Takes took before found after
+  pub takes : TakesEach took before found after
   pub steps : new ≡ old + length found
 
 -- those before one of them were taken in turn, and this one was refused
@@ -31,6 +31,6 @@ pub record RefusesAt {S : Type 0} (took refused : S → ℕ → S → Type 0) (P
   pub found : List ℕ
   pub all : AreAll (λ n. P n × (n < next)) found
   pub between : S
-  pub takes : Takes took before found between
+  pub takes : TakesEach took before found between
   pub refuses : refused between next after
   pub steps : new ≡ old + length found + 1

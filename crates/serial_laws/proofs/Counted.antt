@@ -3,6 +3,7 @@ use Rattle.std.proofs.Common.{◌≡◌, refl, ap, ℕ, suc, ◌+◌, ◌<◌, �
 use Rattle.std.specs.Prelude.{sum_by}
 use Rattle.std.specs.List.{flat_map}
 use Rattle.std.proofs.lemmas.List.Sums.{sum_by-append, sum_by-cons}
+use Rattle.log_format.specs.Limit.{task_limit}
 use Rattle.sw_base.specs.declared.path.Step.{Step}
 use Rattle.log_format.specs.declared.record.Kind.TheVariants as kind
 use Rattle.log_format.specs.declared.record.Record.{Record}
@@ -11,11 +12,11 @@ use Rattle.kernel_syntax.specs.declared.syntax.Array.{Array}
 use Rattle.kernel_syntax.specs.Tree.{TeamTree}
 use Rattle.kernel_model.specs.State.{event}
 use Rattle.history_model.specs.Work.{Work, Phases}
-use Rattle.serial_run.specs.Going.{Progress}
+use Rattle.serial_run.specs.Going.{SerialProgress}
 use Rattle.serial_run.specs.Placing.{ElementLayout}
 use Rattle.serial_run.specs.Stepping.{Adds}
 use Rattle.serial_team.specs.Members.{Pool, pool_at, WholeLog, MemberValue, later, idle, path_in, logs_at, logs_of_member, BeginsLane}
-use Rattle.serial_team.specs.Running.{most_below, past_region, LaneRuns, TeamRuns, PhasesRun}
+use Rattle.serial_team.specs.Running.{past_region, LaneRuns, TeamRuns, PhasesRun}
 
 abbrev records_in : WholeLog → ℕ
 records_in log = log.count
@@ -46,7 +47,7 @@ lane_none arrays team slots n x b =
 
 module _ (layout : ElementLayout) where
   -- records are made of room
-  made_room : (old new : Progress) (mark : List Record) (a : Adds layout old new mark) → new.left + new.count ≡ old.left + old.count
+  made_room : (old new : SerialProgress) (mark : List Record) (a : Adds layout old new mark) → new.left + new.count ≡ old.left + old.count
   made_room old new mark a = omega (arith, a.gains.left, a.gains.count)
 
   mutual
@@ -72,7 +73,7 @@ module _ (layout : ElementLayout) where
         omega (arith, team_room at number xs p works ys q t, phases_room at number ys q phases zs r more)
 
   -- no more tasks are below a task than may be
-  lane_few : (path : List Step) (x : MemberValue) (work : Work) (z : MemberValue) → LaneRuns layout path x work z → length x.below ≤ most_below → length z.below ≤ most_below
+  lane_few : (path : List Step) (x : MemberValue) (work : Work) (z : MemberValue) → LaneRuns layout path x work z → length x.below ≤ task_limit → length z.below ≤ task_limit
   lane_few _ _ _ _ (LaneRuns.waits path x y line a) le = le
   lane_few _ _ _ _ (LaneRuns.ends path x y f) le = le
   lane_few _ _ _ _ (LaneRuns.forks path x z y team xs ys p phases more a less begin runs few next) le = lane_few path (past_region path x y ys p) more z next few

@@ -6,7 +6,7 @@ use Rattle.log_format.specs.declared.record.Kind.TheVariants as kind
 use Rattle.kernel_model.specs.State.{event}
 use Rattle.history_model.specs.Work.{Work, Put, logged_value, work_records, work_regions}
 use Rattle.history_model.specs.Sound.{IsSoundRecord}
-use Rattle.serial_run.specs.Going.{Progress, FindsValue, words_after, Finds}
+use Rattle.serial_run.specs.Going.{SerialProgress, FindsValue, words_after, Finds}
 use Rattle.serial_run.specs.Placing.{ElementLayout}
 use Rattle.serial_run.specs.Stepping.{Adds}
 use Rattle.serial_team.specs.Running.{whole_value, put_all}
@@ -40,7 +40,7 @@ module _ (layout : ElementLayout) where
   marked_words (r ∷ plain) mark old new still f = (f.0, marked_words plain mark (words_after layout r.kind r old) new still f.1)
 
   -- what is made before a mark finds the words, and leaves them as the mark does
-  pub plain_finds : (old new : Progress) (mark : Record) (a : Adds layout old new (mark ∷ [])) → ((words : List ℕ) → words_after layout mark.kind mark words ≡ words)
+  pub plain_finds : (old new : SerialProgress) (mark : Record) (a : Adds layout old new (mark ∷ [])) → ((words : List ℕ) → words_after layout mark.kind mark words ≡ words)
       → Finds layout a.plain old.words new.words
   plain_finds old new mark a still = marked_words a.plain mark old.words new.words still (subst (λ (rs : List Record). Finds layout rs old.words new.words) a.added_is a.gains.finds)
 
@@ -50,7 +50,7 @@ module _ (layout : ElementLayout) where
   put_mark (r ∷ plain) mark words more whole = ap (λ (w : Work). Put (record r { value = whole_value layout r.kind r words }) w) (put_mark plain mark (words_after layout r.kind r words) more whole)
 
   -- the mark is put after them
-  pub puts_mark : (old new : Progress) (mark : Record) (a : Adds layout old new (mark ∷ [])) (more : Work) → IsStill mark
+  pub puts_mark : (old new : SerialProgress) (mark : Record) (a : Adds layout old new (mark ∷ [])) (more : Work) → IsStill mark
       → put_all layout old.words a.added more ≡ put_all layout old.words a.plain (Put mark more)
   puts_mark old new mark a more still = ap (λ (rs : List Record). put_all layout old.words rs more) a.added_is ∙ put_mark a.plain mark old.words more still.whole
 

@@ -24,7 +24,7 @@ use Rattle.execution_model.specs.Runs.{logged_tasks}
 use Rattle.serial_model.specs.Serial.{FindSo}
 use Rattle.serial_run.specs.Placing.{OfLog, ElementLayout, TellsWords}
 use Rattle.serial_team.specs.Members.{WholeLog, MemberValue, later, logs_at, BeginsLane}
-use Rattle.serial_team.specs.Running.{RanRoot}
+use Rattle.serial_team.specs.Running.{DidRoot}
 use Rattle.serial_laws.specs.SerialRuns.{spelled, IsSerialRun, LogsSerialRun}
 use Rattle.serial_laws.proofs.Counted.{root_few, root_room}
 use Rattle.serial_laws.proofs.Found.{Agrees, lane_does}
@@ -83,7 +83,7 @@ module _ (layout : ElementLayout) (program : Program) (lawful : IsLawful program
       zeros : (w : ℕ) → w < layout.count → slice_index (replicate (elements program.arrays) 0) w ≡ 0
       zeros w less = get_or-replicate (elements program.arrays) w 0 0 (omega (arith, less, tells.count))
 
-  module _ (by_log : layout.bound ≡ OfLog) (left : ℕ) (logs : List WholeLog) (words : List ℕ) (r : RanRoot layout program left logs words) where
+  module _ (by_log : layout.bound ≡ OfLog) (left : ℕ) (logs : List WholeLog) (words : List ℕ) (r : DidRoot layout program left logs words) where
     abbrev first : MemberValue
     first = later r.before (record { words = replicate (elements program.arrays) 0; left = left })
 

@@ -13,7 +13,7 @@ ghost use Rattle.history_model.specs.Sound.{WordLayout};
 ghost use Rattle.certainty_model.specs.Certain.{IsCertain, IsFixed, IsRun};
 ghost use Rattle.serial_run.specs.Placing.{ElementLayout, OfLog, TellsWords};
 ghost use Rattle.serial_team.specs.Members.{WholeLog};
-ghost use Rattle.serial_team.specs.Running.{RanRoot};
+ghost use Rattle.serial_team.specs.Running.{DidRoot};
 ghost use Rattle.serial_team.specs.Stopping.{RootStopped, StopAt};
 ghost use Rattle.serial_laws.specs.SerialRuns.{IsSerialRun, IsStoppedWork, LogsSerialRun};
 
@@ -21,7 +21,7 @@ ghost use Rattle.serial_laws.specs.SerialRuns.{IsSerialRun, IsStoppedWork, LogsS
 /// that the run leaves. It has no more records than there was room for.
 pub fn serial_teams_run_the_kernel()
     ensures { (layout : ElementLayout) (program : Program) (left : ℕ) (logs : List WholeLog) (words : List ℕ) → IsLawful program →
-        TellsWords program.arrays layout → layout.bound ≡ OfLog → RanRoot layout program left logs words → LogsSerialRun program layout.words left logs words }
+        TellsWords program.arrays layout → layout.bound ≡ OfLog → DidRoot layout program left logs words → LogsSerialRun program layout.words left logs words }
 {}
 
 /// Where the root or a task below it stopped, all that was done is the work of a fork-join run, in serial order.

@@ -1,3 +1,7 @@
 pub mod Homes
 pub mod Legal
+pub mod Reaching
+pub mod SerialHistory
 pub mod SerialRuns
+pub mod Told
+pub mod Vectors

@@ -5,9 +5,9 @@ use Rattle.kernel_syntax.specs.Layout.{elements}
 use Rattle.kernel_model.specs.Value as model
 use Rattle.task_place.specs.declared.place.Element.{Element}
 use Rattle.task_place.specs.Placing.{IsElement}
-use Rattle.serial_run.specs.Placing.{ElementLayout, StandsAt, TellsWords}
+use Rattle.serial_run.specs.Placing.{ElementLayout, IsPlacedAt, TellsWords}
 
-pub stands_at : {arrays : List Array} {found : Option model.Element} {e : Element} → IsElement arrays (elements arrays) found e → (layout : ElementLayout) → TellsWords arrays layout → StandsAt layout e
+pub stands_at : {arrays : List Array} {found : Option model.Element} {e : Element} → IsElement arrays (elements arrays) found e → (layout : ElementLayout) → TellsWords arrays layout → IsPlacedAt layout e
 stands_at element layout tells =
     let n = element.numbered in
     record {

@@ -15,9 +15,9 @@ use Rattle.kernel_model.proofs.Equations.{run-Done}
 use Rattle.serial_run.specs.declared.frame.Frame.{Frame}
 use Rattle.serial_run.specs.declared.halt.Halt.{Halt}
 use Rattle.serial_run.specs.declared.halt.Halt.TheVariants as halt
-use Rattle.serial_run.specs.Going.{Progress, room_of, FindsValue, words_after, Gains, Made, Goes, Logs, MayMake}
-use Rattle.serial_run.specs.Resting.{rest_of}
-use Rattle.serial_run.specs.Stepping.{Stand, Leads, Adds, Steps, Stepped, HaltsSo}
+use Rattle.serial_run.specs.Going.{SerialProgress, room_of, FindsValue, words_after, Gains, RanPart, RunsPart, LogsRecord, MayMake}
+use Rattle.serial_run.specs.Resting.{frames_rest}
+use Rattle.serial_run.specs.Stepping.{Stand, Leads, Adds, StepsInto, Stepped, HaltsSo}
 use Rattle.serial_run.proofs.Following.{room_gained, some_room, gains_none, gains_then, plain_then}
 use Rattle.serial_run.proofs.Stepping.{gains_one}
 use Rattle.serial_run.specs.Placing.{ElementLayout}
@@ -30,13 +30,13 @@ pub both_are : {A : Type 0} (F : ℤ → ℤ → A) (a b : ℤ) → FitsSigned w
 both_are F a b a_fits b_fits = ap (λ (z : ℤ). F z (to_z w64 (of_z w64 b))) (to_z-of_z w64 a a_fits) ∙ ap (λ (z : ℤ). F a z) (to_z-of_z w64 b b_fits)
 
 -- a part that was executed, with nothing left of it
-pub stepped_still : {layout : ElementLayout} {part : Part} {mark : List Record} {forks : List Fork} (x : Stand) {slots : List ℤ} {p : Progress}
-    → Steps layout x.at part x.slots slots x.progress p [] mark forks → Stepped layout part x (record x { slots = slots; progress = p }) mark forks
+pub stepped_still : {layout : ElementLayout} {part : Part} {mark : List Record} {forks : List Fork} (x : Stand) {slots : List ℤ} {p : SerialProgress}
+    → StepsInto layout x.at part x.slots slots x.progress p [] mark forks → Stepped layout part x (record x { slots = slots; progress = p }) mark forks
 stepped_still x steps = record { at = refl; end = refl; pushed = []; rest = sym (append-nil x.rest); steps = steps }
 
 -- one with two frames left, which were pushed one after the other
-pub stepped_two : {layout : ElementLayout} {part : Part} {mark : List Record} {forks : List Fork} (x : Stand) (f g : Frame) {slots : List ℤ} {p : Progress} {mid rest : List Frame} → mid ≡ x.rest ++ f ∷ [] → rest ≡ mid ++ g ∷ []
-    → Steps layout x.at part x.slots slots x.progress p (f ∷ g ∷ []) mark forks → Stepped layout part x (record x { slots = slots; progress = p; rest = rest }) mark forks
+pub stepped_two : {layout : ElementLayout} {part : Part} {mark : List Record} {forks : List Fork} (x : Stand) (f g : Frame) {slots : List ℤ} {p : SerialProgress} {mid rest : List Frame} → mid ≡ x.rest ++ f ∷ [] → rest ≡ mid ++ g ∷ []
+    → StepsInto layout x.at part x.slots slots x.progress p (f ∷ g ∷ []) mark forks → Stepped layout part x (record x { slots = slots; progress = p; rest = rest }) mark forks
 stepped_two x f g one two steps = record {
   at = refl;
   end = refl;
@@ -76,10 +76,10 @@ module _ (slots slots' : List ℤ) (room room' : ℕ) (added : List Record) (roo
 
 -- ---- records
 
-abbrev pub adds_none : (layout : ElementLayout) (p : Progress) → Adds layout p p []
+abbrev pub adds_none : (layout : ElementLayout) (p : SerialProgress) → Adds layout p p []
 adds_none layout p = record { plain = []; plain_is = tt; added = []; added_is = refl; within = omega arith; gains = gains_none layout p }
 
-abbrev pub adds_then : (layout : ElementLayout) (old mid new : Progress) (mark : List Record) → Adds layout old mid [] → Adds layout mid new mark → Adds layout old new mark
+abbrev pub adds_then : (layout : ElementLayout) (old mid new : SerialProgress) (mark : List Record) → Adds layout old mid [] → Adds layout mid new mark → Adds layout old new mark
 adds_then layout old mid new mark one two = record {
   plain = one.plain ++ two.plain;
   plain_is = plain_then one.plain two.plain one.plain_is two.plain_is;
@@ -91,14 +91,14 @@ adds_then layout old mid new mark one two = record {
   gains = gains_then layout old mid new one.added two.added one.gains two.gains;
 }
 
-abbrev pub adds_made : {A : Type 0} (layout : ElementLayout) (part : State → Outcome A) (slots slots' : List ℤ) (old new : Progress) (a : A) → Made layout part slots slots' old new (Returned a) → Adds layout old new []
+abbrev pub adds_made : {A : Type 0} (layout : ElementLayout) (part : State → Outcome A) (slots slots' : List ℤ) (old new : SerialProgress) (a : A) → RanPart layout part slots slots' old new (Returned a) → Adds layout old new []
 adds_made layout part slots slots' old new a m = record { plain = m.added; plain_is = m.plain; added = m.added; added_is = sym (append-nil m.added); within = m.makes.within; gains = m.gains }
 
 -- ---- parts
 
 module _ (layout : ElementLayout) (at : Site) where
-  pub steps_same : (part other : Part) (slots slots' : List ℤ) (old new : Progress) (pushed : List Frame) (mark : List Record) (forks : List Fork) → ((s : State) → other s ≡ part s)
-      → Steps layout at part slots slots' old new pushed mark forks → Steps layout at other slots slots' old new pushed mark forks
+  pub steps_same : (part other : Part) (slots slots' : List ℤ) (old new : SerialProgress) (pushed : List Frame) (mark : List Record) (forks : List Fork) → ((s : State) → other s ≡ part s)
+      → StepsInto layout at part slots slots' old new pushed mark forks → StepsInto layout at other slots slots' old new pushed mark forks
   steps_same part other slots slots' old new pushed mark forks same x = record {
     makes = x.makes;
     leads = λ then' records before reads chunks.
@@ -107,34 +107,34 @@ module _ (layout : ElementLayout) (at : Site) where
   }
 
   -- frames are pushed
-  pub steps_push : (part : Part) (slots : List ℤ) (p : Progress) (pushed : List Frame) → ((then' : Part) (s : State) → after (part s) then' ≡ rest_of at pushed then' s)
-      → Steps layout at part slots slots p p pushed [] []
+  pub steps_push : (part : Part) (slots : List ℤ) (p : SerialProgress) (pushed : List Frame) → ((then' : Part) (s : State) → after (part s) then' ≡ frames_rest at pushed then' s)
+      → StepsInto layout at part slots slots p p pushed [] []
   steps_push part slots p pushed same = record {
     makes = adds_none layout p;
     leads = λ then' records before reads chunks.
-        same then' (state_with slots records before (room_of layout.bound p) reads chunks) ∙ leads_none (rest_of at pushed then') slots (room_of layout.bound p) records before reads chunks;
+        same then' (state_with slots records before (room_of layout.bound p) reads chunks) ∙ leads_none (frames_rest at pushed then') slots (room_of layout.bound p) records before reads chunks;
   }
 
   -- a part that was executed
-  pub steps_made : (part : Part) (slots slots' : List ℤ) (old new : Progress) → Made layout part slots slots' old new (Returned tt) → Steps layout at part slots slots' old new [] [] []
+  pub steps_made : (part : Part) (slots slots' : List ℤ) (old new : SerialProgress) → RanPart layout part slots slots' old new (Returned tt) → StepsInto layout at part slots slots' old new [] [] []
   steps_made part slots slots' old new m = record {
     makes = adds_made layout part slots slots' old new tt m;
     leads = λ then'. leads_made slots slots' (room_of layout.bound old) (room_of layout.bound new) m.added (room_gained layout old new m.added m.gains) part then' m.makes;
   }
 
   -- a value, and what is done with it
-  pub steps_then : {A : Type 0} (first : State → Outcome A) (next : A → Part) (slots mid_slots slots' : List ℤ) (old mid new : Progress) (pushed : List Frame) (mark : List Record) (forks : List Fork) (a : A)
-      → Made layout first slots mid_slots old mid (Returned a) → Steps layout at (next a) mid_slots slots' mid new pushed mark forks
-      → Steps layout at (λ s. and_then (first s) next) slots slots' old new pushed mark forks
+  pub steps_then : {A : Type 0} (first : State → Outcome A) (next : A → Part) (slots mid_slots slots' : List ℤ) (old mid new : SerialProgress) (pushed : List Frame) (mark : List Record) (forks : List Fork) (a : A)
+      → RanPart layout first slots mid_slots old mid (Returned a) → StepsInto layout at (next a) mid_slots slots' mid new pushed mark forks
+      → StepsInto layout at (λ s. and_then (first s) next) slots slots' old new pushed mark forks
   steps_then first next slots mid_slots slots' old mid new pushed mark forks a one two = record {
     makes = adds_then layout old mid new mark (adds_made layout first slots mid_slots old mid a one) two.makes;
     leads = λ then'.
-        leads_then (λ s. after (and_then (first s) next) then') (λ s. after (next a s) then') (rest_of at pushed then') slots mid_slots slots' (room_of layout.bound old) (room_of layout.bound mid) (room_of layout.bound new) one.added two.makes.added [] forks
+        leads_then (λ s. after (and_then (first s) next) then') (λ s. after (next a s) then') (frames_rest at pushed then') slots mid_slots slots' (room_of layout.bound old) (room_of layout.bound mid) (room_of layout.bound new) one.added two.makes.added [] forks
         (leads_value slots mid_slots (room_of layout.bound old) (room_of layout.bound mid) one.added (room_gained layout old mid one.added one.gains) first next then' a one.makes) (two.leads then');
   }
 
   -- a variable is set
-  pub steps_assign : (slot : ℕ) (v : ℤ) (slots : List ℤ) (p : Progress) → Steps layout at (λ s. run at Done (assign slot v s)) slots (slice_set slots slot v) p p [] [] []
+  pub steps_assign : (slot : ℕ) (v : ℤ) (slots : List ℤ) (p : SerialProgress) → StepsInto layout at (λ s. run at Done (assign slot v s)) slots (slice_set slots slot v) p p [] [] []
   steps_assign slot v slots p = record {
     makes = adds_none layout p;
     leads = λ then' records before reads chunks.
@@ -143,7 +143,7 @@ module _ (layout : ElementLayout) (at : Site) where
   }
 
   -- a record that is no access
-  module _ (due : Record) (slots : List ℤ) (old new : Progress) (room : MayMake old) (logs : Logs due old new) (finds : FindsValue layout due.kind due old.words) (same : words_after layout due.kind due old.words ≡ old.words)
+  module _ (due : Record) (slots : List ℤ) (old new : SerialProgress) (room : MayMake old) (logs : LogsRecord due old new) (finds : FindsValue layout due.kind due old.words) (same : words_after layout due.kind due old.words ≡ old.words)
       (none : value_read due.kind due.value ≡ None) (none' : number_drawn due.kind due.addr ≡ None) where
     pub gains : Gains layout old new (due ∷ [])
     gains = gains_one layout due old new new.words finds (logs.words ∙ sym same) logs
@@ -157,14 +157,12 @@ module _ (layout : ElementLayout) (at : Site) where
     pub leads_put : (then' : Part) → Leads (λ s. after (put due s) then') slots (room_of layout.bound old) then' slots (room_of layout.bound new) (due ∷ []) []
     leads_put then' = leads_made slots slots (room_of layout.bound old) (room_of layout.bound new) (due ∷ []) (room_gained layout old new (due ∷ []) gains) (put due) then' (makes-put due slots (room_of layout.bound old) some none none')
 
-    pub steps_put : Steps layout at (put due) slots slots old new [] (due ∷ []) []
+    pub steps_put : StepsInto layout at (put due) slots slots old new [] (due ∷ []) []
     steps_put = record { makes = adds_mark; leads = leads_put }
 
 -- how a part that stops is told of a task
-pub halts_goes : (layout : ElementLayout) (part : Part) (old new : Stand) (why : Halt) → Goes layout part old.slots new.slots old.progress new.progress (Err why) → HaltsSo layout part old new why
-halts_goes layout part old new (halt.DivZero line) m = m
-halts_goes layout part old new (halt.Index line) m = m
-halts_goes layout part old new (halt.LogFull line) m = m
+pub halts_goes : (layout : ElementLayout) (part : Part) (old new : Stand) (why : Halt) → RunsPart layout part old.slots new.slots old.progress new.progress (Err why) → HaltsSo layout part old new why
+halts_goes layout part old new (halt.Stops why line) m = m
 halts_goes layout part old new halt.Long m = m
 halts_goes layout part old new halt.Refused m = tt
 halts_goes layout part old new halt.Memory m = tt

@@ -19,9 +19,9 @@ use Rattle.kernel_model.proofs.Joining.{after-after, after-same, after-done}
 use Rattle.kernel_model.proofs.Turns.{each-range}
 use Rattle.serial_run.specs.declared.frame.Frame.{Frame}
 use Rattle.serial_run.specs.declared.halt.Halt.{Halt}
-use Rattle.serial_run.specs.Going.{Progress, room_of, Made, Goes}
-use Rattle.serial_run.specs.Resting.{part_of, rest_of, dealt_from, end_frames}
-use Rattle.serial_run.specs.Stepping.{Steps}
+use Rattle.serial_run.specs.Going.{SerialProgress, room_of, RanPart, RunsPart}
+use Rattle.serial_run.specs.Resting.{frame_part, frames_rest, dealt_from, end_frames}
+use Rattle.serial_run.specs.Stepping.{StepsInto}
 use Rattle.serial_run.proofs.Following.{goes_same, goes_stop, goes_then}
 use Rattle.serial_run.proofs.Leading.{Part, leads_none, adds_none, steps_same, steps_push, steps_then}
 use Rattle.serial_run.specs.Placing.{ElementLayout}
@@ -64,11 +64,11 @@ module _ (at : Site) (body : Code) (slot : ℕ) where
       ∙ ap (λ (p : ℕ × ℕ). each (range_with_len p.0 p.1) (turn_from at body slot from) s) is
 
   -- the next turn, and then the others
-  pub turn_steps : (layout : ElementLayout) (slots slots' : List ℤ) (p : Progress) (next end : ℤ) (f g : Frame) → slots' ≡ slice_set slots slot next → total_of next end ≡ suc (total_of (next +ℤ pos 1) end)
-      → ((s : State) → part_of at f s ≡ turns (total_of (next +ℤ pos 1) end) 0 (turn_from at body slot (next +ℤ pos 1)) s) → ((s : State) → part_of at g s ≡ run at body s)
-      → Steps layout at (λ s. turns (total_of next end) 0 (turn_from at body slot next) s) slots slots' p p (f ∷ g ∷ []) [] []
+  pub turn_steps : (layout : ElementLayout) (slots slots' : List ℤ) (p : SerialProgress) (next end : ℤ) (f g : Frame) → slots' ≡ slice_set slots slot next → total_of next end ≡ suc (total_of (next +ℤ pos 1) end)
+      → ((s : State) → frame_part at f s ≡ turns (total_of (next +ℤ pos 1) end) 0 (turn_from at body slot (next +ℤ pos 1)) s) → ((s : State) → frame_part at g s ≡ run at body s)
+      → StepsInto layout at (λ s. turns (total_of next end) 0 (turn_from at body slot next) s) slots slots' p p (f ∷ g ∷ []) [] []
   turn_steps layout slots slots' p next end f g slots_are more f_is g_is =
-      subst (λ (l : List ℤ). Steps layout at (λ s. turns (total_of next end) 0 (turn_from at body slot next) s) slots l p p (f ∷ g ∷ []) [] []) (sym slots_are)
+      subst (λ (l : List ℤ). StepsInto layout at (λ s. turns (total_of next end) 0 (turn_from at body slot next) s) slots l p p (f ∷ g ∷ []) [] []) (sym slots_are)
       (record {
         makes = adds_none layout p;
         leads = λ then' records before reads chunks.
@@ -79,15 +79,15 @@ module _ (at : Site) (body : Code) (slot : ℕ) where
             ap (λ (n : ℕ). after (turns n 0 (turn_from at body slot next) st) then') more
             ∙ after-after (turn_from at body slot next 0 st) (turns m 1 (turn_from at body slot next)) then'
             ∙ ap (λ (z : ℤ). after (run at body (assign slot z st)) (λ t. after (turns m 1 (turn_from at body slot next) t) then')) value_is
-            ∙ after-same (run at body st') (λ t. after (turns m 1 (turn_from at body slot next) t) then') (λ t. after (part_of at f t) then')
+            ∙ after-same (run at body st') (λ t. after (turns m 1 (turn_from at body slot next) t) then') (λ t. after (frame_part at f t) then')
             (λ t. ap (λ o. after o then') (shift m 1 0 next t ∙ sym (f_is t)))
-            ∙ ap (λ o. after o (λ t. after (part_of at f t) then')) (sym (g_is st'))
-            ∙ leads_none (rest_of at (f ∷ g ∷ []) then') (slice_set slots slot next) (room_of layout.bound p) records before reads chunks;
+            ∙ ap (λ o. after o (λ t. after (frame_part at f t) then')) (sym (g_is st'))
+            ∙ leads_none (frames_rest at (f ∷ g ∷ []) then') (slice_set slots slot next) (room_of layout.bound p) records before reads chunks;
       })
 
 -- ---- a worksharing loop
 
-module _ (layout : ElementLayout) (at : Site) (slots : List ℤ) (slot : ℕ) (from to : Term) (schedule : Schedule) (nowait : Bool) (line end : ℕ) (body : Code) (old mid : Progress) where
+module _ (layout : ElementLayout) (at : Site) (slots : List ℤ) (slot : ℕ) (from to : Term) (schedule : Schedule) (nowait : Bool) (line end : ℕ) (body : Code) (old mid : SerialProgress) where
   abbrev pub for_part : Part
   for_part = run at (tree.For slot from to schedule nowait line end body Done)
 
@@ -97,25 +97,25 @@ module _ (layout : ElementLayout) (at : Site) (slots : List ℤ) (slot : ℕ) (f
   abbrev of_from : ℤ → Part
   of_from a s = and_then (value at to s) (of_bounds a)
 
-  pub for_from_stops : (why : Halt) → Goes layout (value at from) slots slots old mid (Err why) → Goes layout for_part slots slots old mid (Err why)
+  pub for_from_stops : (why : Halt) → RunsPart layout (value at from) slots slots old mid (Err why) → RunsPart layout for_part slots slots old mid (Err why)
   for_from_stops why goes =
       goes_same layout _ for_part slots slots old mid (Err why) (run-For at slot from to schedule nowait line end body Done) (goes_stop layout (value at from) of_from slots slots old mid why goes)
 
-  module _ (new : Progress) (a : ℤ) (first : Made layout (value at from) slots slots old mid (Returned a)) where
-    pub for_to_stops : (why : Halt) → Goes layout (value at to) slots slots mid new (Err why) → Goes layout for_part slots slots old new (Err why)
+  module _ (new : SerialProgress) (a : ℤ) (first : RanPart layout (value at from) slots slots old mid (Returned a)) where
+    pub for_to_stops : (why : Halt) → RunsPart layout (value at to) slots slots mid new (Err why) → RunsPart layout for_part slots slots old new (Err why)
     for_to_stops why goes =
         goes_same layout _ for_part slots slots old new (Err why) (run-For at slot from to schedule nowait line end body Done)
         (goes_then layout (value at from) of_from slots slots slots old mid new a first (Err why) (goes_stop layout (value at to) (of_bounds a) slots slots mid new why goes))
 
-    pub for_steps : (b : ℤ) (f : Frame) → ((s : State) → part_of at f s ≡ shared schedule at line (total_of a b) (turn_from at body slot a) s) → Made layout (value at to) slots slots mid new (Returned b)
-        → Steps layout at for_part slots slots old new (end_frames nowait end ++ f ∷ []) [] []
+    pub for_steps : (b : ℤ) (f : Frame) → ((s : State) → frame_part at f s ≡ shared schedule at line (total_of a b) (turn_from at body slot a) s) → RanPart layout (value at to) slots slots mid new (Returned b)
+        → StepsInto layout at for_part slots slots old new (end_frames nowait end ++ f ∷ []) [] []
     for_steps b f frame_is second =
         steps_same layout at _ for_part slots slots old new (end_frames nowait end ++ f ∷ []) [] [] (run-For at slot from to schedule nowait line end body Done)
         (steps_then layout at (value at from) of_from slots slots slots old mid new (end_frames nowait end ++ f ∷ []) [] [] a first
         (steps_then layout at (value at to) (of_bounds a) slots slots slots mid new new (end_frames nowait end ++ f ∷ []) [] [] b second
         (steps_push layout at (of_bounds a b) slots new (end_frames nowait end ++ f ∷ []) (pushed nowait))))
       where
-        pushed : (w : Bool) (then' : Part) (s : State) → after (after (shared schedule at line (total_of a b) (turn_from at body slot a) s) (λ t. after (loop_end w end t) (run at Done))) then' ≡ rest_of at (end_frames w end ++ f ∷ []) then' s
+        pushed : (w : Bool) (then' : Part) (s : State) → after (after (shared schedule at line (total_of a b) (turn_from at body slot a) s) (λ t. after (loop_end w end t) (run at Done))) then' ≡ frames_rest at (end_frames w end ++ f ∷ []) then' s
         pushed true then' s = ap (λ o. after o then') (after-done at (shared schedule at line (total_of a b) (turn_from at body slot a) s) ∙ sym (frame_is s))
         pushed false then' s =
             after-after (shared schedule at line (total_of a b) (turn_from at body slot a) s) (λ t. after (put (event kind.Barrier end 0 0) t) (run at Done)) then'
@@ -150,21 +150,21 @@ module _ (at : Site) (body : Code) (slot : ℕ) (from : ℤ) (chunk total next :
   not_false true is = refl
   not_false false is = sym is
 
-  pub past_steps : (layout : ElementLayout) (slots : List ℤ) (p : Progress) → total ≤ next → Steps layout at (λ s. each (dealt next) (turn_from at body slot from) s) slots slots p p [] [] []
+  pub past_steps : (layout : ElementLayout) (slots : List ℤ) (p : SerialProgress) → total ≤ next → StepsInto layout at (λ s. each (dealt next) (turn_from at body slot from) s) slots slots p p [] [] []
   past_steps layout slots p past =
       steps_push layout at (λ s. each (dealt next) (turn_from at body slot from) s) slots p [] (λ then' s. ap (λ (l : List ℕ). after (each l (turn_from at body slot from) s) then') (dealt_none past))
 
-  module _ (layout : ElementLayout) (slots : List ℤ) (p : Progress) (f : Frame) (less : next < total) (f_is : (s : State) → part_of at f s ≡ each (dealt (next + 1)) (turn_from at body slot from) s) where
-    pub skip_steps : not own ≡ true → Steps layout at (λ s. each (dealt next) (turn_from at body slot from) s) slots slots p p (f ∷ []) [] []
+  module _ (layout : ElementLayout) (slots : List ℤ) (p : SerialProgress) (f : Frame) (less : next < total) (f_is : (s : State) → frame_part at f s ≡ each (dealt (next + 1)) (turn_from at body slot from) s) where
+    pub skip_steps : not own ≡ true → StepsInto layout at (λ s. each (dealt next) (turn_from at body slot from) s) slots slots p p (f ∷ []) [] []
     skip_steps other =
         steps_push layout at (λ s. each (dealt next) (turn_from at body slot from) s) slots p (f ∷ [])
         (λ then' s. ap (λ (l : List ℕ). after (each l (turn_from at body slot from) s) then') (dealt_next less ∙ ap (λ (b : Bool). cond b (next ∷ dealt (next + 1)) (dealt (next + 1))) (not_true own other))
         ∙ ap (λ o. after o then') (sym (f_is s)))
 
-    pub own_steps : (slots' : List ℤ) (g : Frame) → not own ≡ false → slots' ≡ slice_set slots slot (from +ℤ pos next) → ((s : State) → part_of at g s ≡ run at body s)
-        → Steps layout at (λ s. each (dealt next) (turn_from at body slot from) s) slots slots' p p (f ∷ g ∷ []) [] []
+    pub own_steps : (slots' : List ℤ) (g : Frame) → not own ≡ false → slots' ≡ slice_set slots slot (from +ℤ pos next) → ((s : State) → frame_part at g s ≡ run at body s)
+        → StepsInto layout at (λ s. each (dealt next) (turn_from at body slot from) s) slots slots' p p (f ∷ g ∷ []) [] []
     own_steps slots' g mine slots_are g_is =
-        subst (λ (l : List ℤ). Steps layout at (λ s. each (dealt next) (turn_from at body slot from) s) slots l p p (f ∷ g ∷ []) [] []) (sym slots_are)
+        subst (λ (l : List ℤ). StepsInto layout at (λ s. each (dealt next) (turn_from at body slot from) s) slots l p p (f ∷ g ∷ []) [] []) (sym slots_are)
         (record {
           makes = adds_none layout p;
           leads = λ then' records before reads chunks.
@@ -172,7 +172,7 @@ module _ (at : Site) (body : Code) (slot : ℕ) (from : ℤ) (chunk total next :
               let st' = state_with (slice_set slots slot (from +ℤ pos next)) records before (room_of layout.bound p) reads chunks in
               ap (λ (l : List ℕ). after (each l (turn_from at body slot from) st) then') (dealt_next less ∙ ap (λ (b : Bool). cond b (next ∷ dealt (next + 1)) (dealt (next + 1))) (not_false own mine))
               ∙ after-after (turn_from at body slot from next st) (each (dealt (next + 1)) (turn_from at body slot from)) then'
-              ∙ after-same (run at body st') (λ t. after (each (dealt (next + 1)) (turn_from at body slot from) t) then') (λ t. after (part_of at f t) then') (λ t. ap (λ o. after o then') (sym (f_is t)))
-              ∙ ap (λ o. after o (λ t. after (part_of at f t) then')) (sym (g_is st'))
-              ∙ leads_none (rest_of at (f ∷ g ∷ []) then') (slice_set slots slot (from +ℤ pos next)) (room_of layout.bound p) records before reads chunks;
+              ∙ after-same (run at body st') (λ t. after (each (dealt (next + 1)) (turn_from at body slot from) t) then') (λ t. after (frame_part at f t) then') (λ t. ap (λ o. after o then') (sym (f_is t)))
+              ∙ ap (λ o. after o (λ t. after (frame_part at f t) then')) (sym (g_is st'))
+              ∙ leads_none (frames_rest at (f ∷ g ∷ []) then') (slice_set slots slot (from +ℤ pos next)) (room_of layout.bound p) records before reads chunks;
         })

@@ -11,7 +11,7 @@ use Rattle.log_format.specs.Fitting.{IsWidth, fit, fitted, CanHave}
 use Rattle.log_format.proofs.FittedBits.{fitted_bits}
 use Rattle.log_format.specs.Spelling.{spelling}
 use Rattle.kernel_syntax.proofs.Fitting.{fitted-fitted, fitted_fits}
-use Rattle.kernel_model.specs.State as model
+use Rattle.kernel_model.specs.declared.stop.StopWhy.TheVariants as reason
 use Rattle.kernel_model.specs.State.{State, Outcome, put, to_bits, from_bits}
 use Rattle.kernel_model.specs.Value.{access, read}
 use Rattle.kernel_model.specs.Effect.{Returned, Halted, Makes, adds}
@@ -19,31 +19,32 @@ use Rattle.kernel_model.proofs.Effects.{makes-put, makes-read}
 use Rattle.serial_run.specs.declared.halt.Halt.{Halt}
 use Rattle.serial_run.specs.declared.halt.Halt.TheVariants as halt
 use Rattle.task_place.specs.declared.place.Element.{Element}
-use Rattle.serial_run.specs.Going.{Progress, room_of, FindsValue, words_after, Gains, Made, Goes, Logs, MayMake, MakesRoom, Marks}
-use Rattle.serial_run.specs.Placing.{ElementLayout, IsInPlace, StandsAt}
+use Rattle.serial_run.specs.Going.{SerialProgress, room_of, FindsValue, words_after, Gains, RanPart, RunsPart, LogsRecord, MayMake, FindsRoom, Marks}
+use Rattle.serial_run.specs.Placing.{ElementLayout, IsInPlace, IsPlacedAt}
 use Rattle.task_place.specs.Placing.{meant}
 use Rattle.serial_run.proofs.Following.{some_room, no_room, no_room_left, made_still}
 
 -- no room
-module _ {A : Type 0} (layout : ElementLayout) (part : State → Outcome A) (slots : List ℤ) (p : Progress) (line : ℕ) (full : Makes part slots 0 (adds slots []) (Halted model.LogFull line)) where
-  made_full : room_of layout.bound p ≡ 0 → Made layout part slots slots p p (Halted model.LogFull line)
+module _ {A : Type 0} (layout : ElementLayout) (part : State → Outcome A) (slots : List ℤ) (p : SerialProgress) (line : ℕ) (full : Makes part slots 0 (adds slots []) (Halted reason.LogFull line)) where
+  made_full : room_of layout.bound p ≡ 0 → RanPart layout part slots slots p p (Halted reason.LogFull line)
   made_full none =
-      made_still layout part slots p (Halted model.LogFull line)
-      (subst (λ (room : ℕ). Makes part slots room (adds slots []) (Halted model.LogFull line)) (sym none) full)
+      made_still layout part slots p (Halted reason.LogFull line)
+      (subst (λ (room : ℕ). Makes part slots room (adds slots []) (Halted reason.LogFull line)) (sym none) full)
 
-  pub goes_full : (why : Halt) → MakesRoom p line (Err why) → Goes layout part slots slots p p (Err why)
-  goes_full (halt.DivZero at) m = absurd m
-  goes_full (halt.Index at) m = absurd m
-  goes_full (halt.LogFull at) m =
-      subst (λ (n : ℕ). Made layout part slots slots p p (Halted model.LogFull n)) (sym m.0)
+  pub goes_full : (why : Halt) → FindsRoom p line (Err why) → RunsPart layout part slots slots p p (Err why)
+  goes_full (halt.Stops reason.DivZero at) m = absurd m
+  goes_full (halt.Stops reason.Index at) m = absurd m
+  goes_full (halt.Stops reason.Tasks at) m = absurd m
+  goes_full (halt.Stops reason.LogFull at) m =
+      subst (λ (n : ℕ). RanPart layout part slots slots p p (Halted reason.LogFull n)) (sym m.0)
       (made_full (no_room layout.bound p m.1))
   goes_full halt.Long m = record { none = m.0; below = m.1; due = λ is. (line, made_full (no_room_left layout.bound p is m.0)) }
   goes_full halt.Refused m = absurd m
   goes_full halt.Memory m = absurd m
 
 -- one record
-pub gains_one : (layout : ElementLayout) (due : Record) (old new : Progress) (after : List ℕ) → FindsValue layout due.kind due old.words → after ≡ words_after layout due.kind due old.words
-    → Logs due old new → Gains layout old (record new { words = after }) (due ∷ [])
+pub gains_one : (layout : ElementLayout) (due : Record) (old new : SerialProgress) (after : List ℕ) → FindsValue layout due.kind due old.words → after ≡ words_after layout due.kind due old.words
+    → LogsRecord due old new → Gains layout old (record new { words = after }) (due ∷ [])
 gains_one layout due old new after finds is logs = record {
   log = logs.log ∙ ap (λ (l : List ℕ). old.log ++ l) (sym (append-nil (spelling due)));
   count = logs.count ∙ omega arith;
@@ -51,11 +52,11 @@ gains_one layout due old new after finds is logs = record {
   left = (let e : new.left + length (due ∷ []) ≡ new.left + 1 = omega arith in e) ∙ logs.left;
 }
 
-module _ (layout : ElementLayout) (slots : List ℤ) (old new : Progress) (room : MayMake old) where
+module _ (layout : ElementLayout) (slots : List ℤ) (old new : SerialProgress) (room : MayMake old) where
   some : 0 < room_of layout.bound old
   some = some_room layout.bound old room
 
-  module _ (e : Element) (wide : IsWidth e.width) (stands : StandsAt layout e) (line site : ℕ) where
+  module _ (e : Element) (wide : IsWidth e.width) (stands : IsPlacedAt layout e) (line site : ℕ) where
     in_place : (k : Kind) (v : ℤ) → IsInPlace layout (access k (meant e) site line v)
     in_place k v = record {
       element = record {
@@ -67,7 +68,7 @@ module _ (layout : ElementLayout) (slots : List ℤ) (old new : Progress) (room 
     }
 
     pub read_made : (bits : ℕ) → bits < 2 ^ 64 → bits ≡ slice_index old.words e.word
-        → Logs (access kind.Read (meant e) site line (fitted (from_bits bits) e.width)) old new → Made layout (read (meant e) site line) slots slots old new (Returned (fitted (from_bits bits) e.width))
+        → LogsRecord (access kind.Read (meant e) site line (fitted (from_bits bits) e.width)) old new → RanPart layout (read (meant e) site line) slots slots old new (Returned (fitted (from_bits bits) e.width))
     read_made bits small is logs = record {
       added = access kind.Read (meant e) site line (fitted (from_bits bits) e.width) ∷ [];
       plain = (inl refl, tt);
@@ -84,8 +85,8 @@ module _ (layout : ElementLayout) (slots : List ℤ) (old new : Progress) (room 
         ∙ ap (λ (z : ℤ). to_bits (fitted z e.width)) (to_z-of_z w64 (fitted v e.width) (fitted_fits v e.width wide))
         ∙ ap (λ (z : ℤ). to_bits z) (fitted-fitted v e.width wide)
 
-    pub store_made : (value : ℤ) (after : List ℕ) → after ≡ slice_set old.words e.word (to_bits (fitted value e.width)) → Logs (access kind.Write (meant e) site line (fitted value e.width)) old new
-        → Made layout (put (access kind.Write (meant e) site line (fitted value e.width))) slots slots old (record new { words = after }) (Returned tt)
+    pub store_made : (value : ℤ) (after : List ℕ) → after ≡ slice_set old.words e.word (to_bits (fitted value e.width)) → LogsRecord (access kind.Write (meant e) site line (fitted value e.width)) old new
+        → RanPart layout (put (access kind.Write (meant e) site line (fitted value e.width))) slots slots old (record new { words = after }) (Returned tt)
     store_made value after is logs =
         let v = fitted value e.width in
         record {
@@ -98,14 +99,15 @@ module _ (layout : ElementLayout) (slots : List ℤ) (old new : Progress) (room 
         }
 
 -- a record that is no access
-pub marks_unready : (due : Record) (p : Progress) (why : Halt) → MakesRoom p due.line (Err why) → Marks due p p (Err why)
-marks_unready due p (halt.DivZero at) m = absurd m
-marks_unready due p (halt.Index at) m = absurd m
-marks_unready due p (halt.LogFull at) m = (m.0, m.1, refl)
+pub marks_unready : (due : Record) (p : SerialProgress) (why : Halt) → FindsRoom p due.line (Err why) → Marks due p p (Err why)
+marks_unready due p (halt.Stops reason.DivZero at) m = absurd m
+marks_unready due p (halt.Stops reason.Index at) m = absurd m
+marks_unready due p (halt.Stops reason.Tasks at) m = absurd m
+marks_unready due p (halt.Stops reason.LogFull at) m = (m.0, m.1, refl)
 marks_unready due p halt.Long m = (m.0, m.1, refl)
 marks_unready due p halt.Refused m = absurd m
 marks_unready due p halt.Memory m = tt
 
-pub marks_spelled : (due : Record) (old new : Progress) (r : Result (Unit {0}) Halt) → MayMake old → IfOk r (λ _. Logs due old new) → IfErr r (λ e. e ≡ halt.Memory) → Marks due old new r
+pub marks_spelled : (due : Record) (old new : SerialProgress) (r : Result (Unit {0}) Halt) → MayMake old → IfOk r (λ _. LogsRecord due old new) → IfErr r (λ e. e ≡ halt.Memory) → Marks due old new r
 marks_spelled due old new (Ok _) room ok err = (room, ok)
 marks_spelled due old new (Err e) room ok err = subst (λ (x : Halt). Marks due old new (Err x)) (sym err) tt

@@ -5,17 +5,18 @@ use Rattle.log_format.specs.declared.record.Kind.TheVariants as kind
 use Rattle.kernel_syntax.specs.Program.{Program}
 use Rattle.kernel_model.specs.Effect.{Halted}
 use Rattle.kernel_model.specs.Folder.{own_trace, IsTraced, IsTracedTo}
-use Rattle.kernel_model.specs.State.{State, Fork, Stop, after, put, event}
+use Rattle.kernel_model.specs.State.{State, Fork, after, put, event}
+use Rattle.kernel_model.specs.declared.stop.StopWhy.{StopWhy}
 use Rattle.kernel_model.specs.Trace.{Start, Stopped, run, site_of}
-use Rattle.serial_run.specs.Going.{Progress, Made}
-use Rattle.serial_run.specs.Stepping.{Stand, Advances, Finishes, left_of}
+use Rattle.serial_run.specs.Going.{SerialProgress, RanPart}
+use Rattle.serial_run.specs.Stepping.{Stand, Advances, Finishes, stand_left}
 use Rattle.serial_run.specs.Placing.{OfLog, ElementLayout}
 
 -- the task has made nothing yet, and all that it executes is left
 pub record IsAtStart (program : Program) (start : Start) (x : Stand) : Type 0 where
   pub slots : x.slots ≡ start.slots
   pub none : x.progress.count ≡ 0
-  pub whole : (s : State) → left_of x s ≡ after (run (site_of program start) start.team.body s) (put (event kind.End start.team.end 0 0))
+  pub whole : (s : State) → stand_left x s ≡ after (run (site_of program start) start.team.body s) (put (event kind.End start.team.end 0 0))
 
 -- From where the task stood first it came here: it made these records and forked these regions, and while it stood still others may
 -- have changed the words.
@@ -35,7 +36,7 @@ HaveTheirTrace =
 -- so a task that stopped, whose trace ends in that stop
 abbrev pub StopAsTold : Type 0
 StopAsTold =
-    (layout : ElementLayout) (program : Program) (start : Start) (first x : Stand) (records : List Record) (forks : List Fork) (slots : List ℤ) (last : Progress) (why : Stop) (line : ℕ)
+    (layout : ElementLayout) (program : Program) (start : Start) (first x : Stand) (records : List Record) (forks : List Fork) (slots : List ℤ) (last : SerialProgress) (why : StopWhy) (line : ℕ)
     → layout.bound ≡ OfLog → IsAtStart program start first → Comes layout first x records forks
-    → (m : Made layout (left_of x) x.slots slots x.progress last (Halted why line))
+    → (m : RanPart layout (stand_left x) x.slots slots x.progress last (Halted why line))
     → IsTracedTo program start (records ++ m.added) (Stopped why line) × ((own_trace program start (records ++ m.added)).forks ≡ forks)

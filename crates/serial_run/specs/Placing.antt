@@ -30,7 +30,7 @@ pub record IsInPlace (layout : ElementLayout) (r : Record) : Type 0 where
   pub within : layout.words.word r.addr < layout.count
 
 -- this element stands there
-pub record StandsAt (layout : ElementLayout) (e : Element) : Type 0 where
+pub record IsPlacedAt (layout : ElementLayout) (e : Element) : Type 0 where
   pub word : layout.words.word e.addr ≡ e.word
   pub address : layout.words.address e.word ≡ e.addr
   pub width : layout.words.width e.word ≡ e.width

@@ -16,17 +16,17 @@ abbrev pub dealt_from : ℕ → ℕ → ℕ → ℕ → ℕ → List ℕ
 dealt_from chunk total lane span next = filter (λ i. (i / chunk) % span == lane) (range_with_len next (total - next))
 
 -- what is executed for a frame
-abbrev pub part_of : Site → Frame → State → Outcome (Unit {0})
-part_of at (frame.Statements stmts) = run at (code_of stmts.now)
-part_of at (frame.Turns body slot next end) = turns (total_of next end) 0 (turn_from at (code_of body.now.stmts.items) slot next)
-part_of at (frame.Chunks body slot from to chunk next) =
+abbrev pub frame_part : Site → Frame → State → Outcome (Unit {0})
+frame_part at (frame.Statements stmts) = run at (code_of stmts.now)
+frame_part at (frame.Turns body slot next end) = turns (total_of next end) 0 (turn_from at (code_of body.now.stmts.items) slot next)
+frame_part at (frame.Chunks body slot from to chunk next) =
     each (dealt_from chunk (total_of from to) at.lane at.span next) (turn_from at (code_of body.now.stmts.items) slot from)
-part_of at (frame.Barrier line) = put (event kind.Barrier line 0 0)
+frame_part at (frame.Barrier line) = put (event kind.Barrier line 0 0)
 
 -- the frames, of which the last one is the next that goes on, and then this
-abbrev pub rest_of : Site → List Frame → (State → Outcome (Unit {0})) → State → Outcome (Unit {0})
-rest_of at [] then' s = then' s
-rest_of at (f ∷ above) then' s = rest_of at above (λ t. after (part_of at f t) then') s
+abbrev pub frames_rest : Site → List Frame → (State → Outcome (Unit {0})) → State → Outcome (Unit {0})
+frames_rest at [] then' s = then' s
+frames_rest at (f ∷ above) then' s = frames_rest at above (λ t. after (frame_part at f t) then') s
 
 -- the frame of the barrier at the end of a worksharing loop
 abbrev pub end_frames : Bool → ℕ → List Frame

@@ -3,7 +3,7 @@ use Rattle.std.specs.Prelude.{◌≡◌, ℕ, ◌≤◌, List, [], ◌∷◌, �
 use Rattle.log_format.specs.declared.record.Record.{Record}
 use Rattle.log_format.specs.declared.record.Kind.TheVariants as kind
 use Rattle.kernel_syntax.specs.Program.{team_of}
-use Rattle.kernel_model.specs.State as model
+use Rattle.kernel_model.specs.declared.stop.StopWhy.TheVariants as reason
 use Rattle.kernel_model.specs.State.{State, Fork, Outcome, Gives, after, put, event, reads_of, chunks_of}
 use Rattle.kernel_model.specs.Effect.{Halted, state_with}
 use Rattle.kernel_model.specs.Value.{Site}
@@ -12,10 +12,10 @@ use Rattle.serial_run.specs.declared.frame.Pause.{Pause}
 use Rattle.serial_run.specs.declared.frame.Pause.TheVariants as pause
 use Rattle.serial_run.specs.declared.halt.Halt.{Halt}
 use Rattle.serial_run.specs.declared.halt.Halt.TheVariants as halt
-use Rattle.serial_run.specs.declared.lane.Lane.{Lane}
-use Rattle.serial_run.specs.declared.memory.Memory.{Memory}
-use Rattle.serial_run.specs.Going.{Progress, progress, room_of, ArePlain, Gains, Made, RunsOut}
-use Rattle.serial_run.specs.Resting.{rest_of}
+use Rattle.serial_run.specs.declared.lane.SerialLane.{SerialLane}
+use Rattle.serial_run.specs.declared.memory.SerialMemory.{SerialMemory}
+use Rattle.serial_run.specs.Going.{SerialProgress, serial_progress, room_of, ArePlain, Gains, RanPart, RunsOut}
+use Rattle.serial_run.specs.Resting.{frames_rest}
 use Rattle.serial_run.specs.Placing.{ElementLayout}
 
 -- where a task stands: where it runs, the line of its End, its locals, what is left of it, and what it has made
@@ -24,10 +24,10 @@ pub record Stand : Type 0 where
   pub end : ℕ
   pub slots : List ℤ
   pub rest : List Frame
-  pub progress : Progress
+  pub progress : SerialProgress
 
-abbrev pub stand : Lane → Memory → Stand
-stand l memory = record { at = l.place; end = l.end; slots = l.locals.slots.items; rest = l.rest.items; progress = progress l.track memory }
+abbrev pub stand : SerialLane → SerialMemory → Stand
+stand l memory = record { at = l.place; end = l.end; slots = l.locals.slots.items; rest = l.rest.items; progress = serial_progress l.track memory }
 
 -- The first part comes to the second once it put these records and forked these regions, whatever was put and forked before it and is
 -- read and drawn after it, where it reads and draws what its own records tell. Here and there it has this much room.
@@ -38,7 +38,7 @@ Leads part slots room part' slots' room' added forks =
     ≡ part' (state_with slots' (records ++ added) (before ++ forks) room' reads chunks)
 
 -- The records that were made: accesses, and last this mark, if any.
-pub record Adds (layout : ElementLayout) (old new : Progress) (mark : List Record) : Type 0 where
+pub record Adds (layout : ElementLayout) (old new : SerialProgress) (mark : List Record) : Type 0 where
   pub plain : List Record
   pub plain_is : ArePlain plain
   pub added : List Record
@@ -47,9 +47,9 @@ pub record Adds (layout : ElementLayout) (old new : Progress) (mark : List Recor
   pub gains : Gains layout old new added
 
 -- The task executed the part but for the frames pushed.
-pub record Steps (layout : ElementLayout) (at : Site) (part : State → Outcome (Unit {0})) (slots slots' : List ℤ) (old new : Progress) (pushed : List Frame) (mark : List Record) (forks : List Fork) : Type 0 where
+pub record StepsInto (layout : ElementLayout) (at : Site) (part : State → Outcome (Unit {0})) (slots slots' : List ℤ) (old new : SerialProgress) (pushed : List Frame) (mark : List Record) (forks : List Fork) : Type 0 where
   pub makes : Adds layout old new mark
-  pub leads : (then' : State → Outcome (Unit {0})) → Leads (λ s. after (part s) then') slots (room_of layout.bound old) (rest_of at pushed then') slots' (room_of layout.bound new) makes.added forks
+  pub leads : (then' : State → Outcome (Unit {0})) → Leads (λ s. after (part s) then') slots (room_of layout.bound old) (frames_rest at pushed then') slots' (room_of layout.bound new) makes.added forks
 
 -- so, with these frames on top of what is left
 pub record Stepped (layout : ElementLayout) (part : State → Outcome (Unit {0})) (old new : Stand) (mark : List Record) (forks : List Fork) : Type 0 where
@@ -57,7 +57,7 @@ pub record Stepped (layout : ElementLayout) (part : State → Outcome (Unit {0})
   pub end : new.end ≡ old.end
   pub pushed : List Frame
   pub rest : new.rest ≡ old.rest ++ pushed
-  pub steps : Steps layout old.at part old.slots new.slots old.progress new.progress pushed mark forks
+  pub steps : StepsInto layout old.at part old.slots new.slots old.progress new.progress pushed mark forks
 
 -- what is put where the task stands still: the record of a barrier or of a fork
 abbrev pub TakesTo : ElementLayout → (State → Outcome (Unit {0})) → Stand → Stand → Option Pause → Type 0
@@ -69,34 +69,32 @@ TakesTo layout part old new (Some pause.Ended) = ⊥
 
 -- the part ended in this stop
 abbrev pub HaltsSo : ElementLayout → (State → Outcome (Unit {0})) → Stand → Stand → Halt → Type 0
-HaltsSo layout part old new (halt.DivZero line) = Made layout part old.slots new.slots old.progress new.progress (Halted model.DivZero line)
-HaltsSo layout part old new (halt.Index line) = Made layout part old.slots new.slots old.progress new.progress (Halted model.Index line)
-HaltsSo layout part old new (halt.LogFull line) = Made layout part old.slots new.slots old.progress new.progress (Halted model.LogFull line)
+HaltsSo layout part old new (halt.Stops why line) = RanPart layout part old.slots new.slots old.progress new.progress (Halted why line)
 HaltsSo layout part old new halt.Long = RunsOut layout part old.slots new.slots old.progress new.progress
 HaltsSo layout part old new _ = Unit {0}
 
 -- how a task goes on with a part, by what is answered
-abbrev pub Takes : ElementLayout → (State → Outcome (Unit {0})) → Stand → Stand → Result (Option Pause) Halt → Type 0
-Takes layout part old new (Ok to) = TakesTo layout part old new to
-Takes layout part old new (Err why) = HaltsSo layout part old new why
+abbrev pub TakesPart : ElementLayout → (State → Outcome (Unit {0})) → Stand → Stand → Result (Option Pause) Halt → Type 0
+TakesPart layout part old new (Ok to) = TakesTo layout part old new to
+TakesPart layout part old new (Err why) = HaltsSo layout part old new why
 
 -- all that is left of a task, its End included
-abbrev pub left_of : Stand → State → Outcome (Unit {0})
-left_of x = rest_of x.at x.rest (put (event kind.End x.end 0 0))
+abbrev pub stand_left : Stand → State → Outcome (Unit {0})
+stand_left x = frames_rest x.at x.rest (put (event kind.End x.end 0 0))
 
 -- the task went on, and this is left
 pub record Advances (layout : ElementLayout) (old new : Stand) (mark : List Record) (forks : List Fork) : Type 0 where
   pub at : new.at ≡ old.at
   pub end : new.end ≡ old.end
   pub makes : Adds layout old.progress new.progress mark
-  pub leads : Leads (left_of old) old.slots (room_of layout.bound old.progress) (left_of new) new.slots (room_of layout.bound new.progress) makes.added forks
+  pub leads : Leads (stand_left old) old.slots (room_of layout.bound old.progress) (stand_left new) new.slots (room_of layout.bound new.progress) makes.added forks
 
 -- the task ended
 pub record Finishes (layout : ElementLayout) (old new : Stand) : Type 0 where
   pub at : new.at ≡ old.at
   pub end : new.end ≡ old.end
   pub makes : Adds layout old.progress new.progress (event kind.End old.end 0 0 ∷ [])
-  pub leads : Leads (left_of old) old.slots (room_of layout.bound old.progress) (λ s. Gives tt s) new.slots (room_of layout.bound new.progress) makes.added []
+  pub leads : Leads (stand_left old) old.slots (room_of layout.bound old.progress) (λ s. Gives tt s) new.slots (room_of layout.bound new.progress) makes.added []
 
 -- where a task stands still
 abbrev pub PausesAt : ElementLayout → Stand → Stand → Pause → Type 0
@@ -112,8 +110,8 @@ AdvancesTo layout old new (Some to) = PausesAt layout old new to
 
 abbrev pub Pauses : ElementLayout → Stand → Stand → Result (Option Pause) Halt → Type 0
 Pauses layout old new (Ok to) = AdvancesTo layout old new to
-Pauses layout old new (Err why) = HaltsSo layout (left_of old) old new why
+Pauses layout old new (Err why) = HaltsSo layout (stand_left old) old new why
 
 abbrev pub Resumes : ElementLayout → Stand → Stand → Result Pause Halt → Type 0
 Resumes layout old new (Ok to) = PausesAt layout old new to
-Resumes layout old new (Err why) = HaltsSo layout (left_of old) old new why
+Resumes layout old new (Err why) = HaltsSo layout (stand_left old) old new why

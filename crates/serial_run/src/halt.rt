@@ -1,15 +1,12 @@
 //! Why a serial run doesn't go on.
+use kernel_model::StopWhy;
 use std::alloc::{AllocError, AllocFailed};
 
-/// Why a serial run doesn't go on. A line is that of the operator, of the array's name, or of the record for which there is no room.
+/// Why a serial run doesn't go on.
 #[derive(Clone, Copy)]
 pub enum Halt {
-    /// A divisor is 0.
-    DivZero { line: u32 },
-    /// An index lies outside its array.
-    Index { line: u32 },
-    /// The log has room for no more records.
-    LogFull { line: u32 },
+    /// The task stops at this line: that of the operator, of the array's name, or of the record for which there is no room.
+    Stops { why: StopWhy, line: u32 },
     /// All records that the run may make are made.
     Long,
     /// A statement that isn't executed here: no fixed kernel has it, or its chunks are empty.

@@ -9,37 +9,30 @@ ghost use Rattle.kernel_model.specs.State.{State, after, event, put};
 ghost use Rattle.log_format.specs.declared.record.Kind.TheVariants as kind;
 ghost use Rattle.kernel_model.specs.Trace.{run, shared};
 ghost use Rattle.serial_run.specs.Placing.{ElementLayout, TellsWords};
-ghost use Rattle.serial_run.specs.Resting.{end_frames, part_of};
+ghost use Rattle.serial_run.specs.Resting.{end_frames, frame_part};
 ghost use Rattle.serial_run.specs.declared.halt.Halt.TheVariants as halt;
-ghost use Rattle.serial_run.specs.declared.memory.Memory.{Memory as Words};
-ghost use Rattle.serial_run.specs.Stepping.{Pauses, Resumes, Takes, left_of, stand};
+ghost use Rattle.serial_run.specs.declared.memory.SerialMemory.{SerialMemory as Words};
+ghost use Rattle.serial_run.specs.Stepping.{Pauses, Resumes, TakesPart, stand_left, stand};
 ghost use Rattle.serial_run.specs.declared.frame.Frame.TheVariants as frame;
 
 use crate::frame::{Frame, Pause};
 use crate::halt::Halt;
-use crate::memory::Memory;
-use crate::track::{Track, event};
+use crate::memory::SerialMemory;
+use crate::track::Track;
+use kernel_model::StopWhy;
 use kernel_syntax::{Body, Expr, Schedule, Stmt, Team, even_share};
 use log_format::Kind;
 use std::alloc::Global;
-use task_place::{Locals, Place};
+use task_place::{Locals, TaskPlace, event, number_at, total_of};
 
 /// A task: where it runs, the line of its End, its locals, what is left of it, and its log.
 #[derive(Drop)]
-pub struct Lane<'k> {
-    pub place: Place<'k>,
+pub struct SerialLane<'k> {
+    pub place: TaskPlace<'k>,
     pub end: u32,
     pub locals: Locals,
     pub rest: Vec<Frame<'k>>,
     pub track: Track,
-}
-
-// How many turns a loop has.
-fn total_of(from: i64, to: i64) -> u64
-    ensures count { result ≡ total_of from to }
-    ensures top { (from +ℤ pos result) ≤ℤ pos (2 ^ 63 - 1) }
-{
-    if from < to { to.abs_diff(from) } else { 0 }
 }
 
 // The body that goes on after a test of this value.
@@ -67,7 +60,7 @@ fn value_after(next: i64, end: i64) -> i64
 }
 
 // Whether an iteration of a loop whose chunks are dealt in turn is another lane's.
-fn is_skipped(place: &Place, chunk: u32, i: u64) -> bool
+fn is_skipped(place: &TaskPlace, chunk: u32, i: u64) -> bool
     requires { 0 < chunk }
     ensures { result ≡ not ((i / chunk) % place.now.span == place.now.lane) }
 {
@@ -75,24 +68,16 @@ fn is_skipped(place: &Place, chunk: u32, i: u64) -> bool
     !own
 }
 
-// The number of an iteration.
-fn number_at(from: i64, i: u64) -> i64
-    requires { (from +ℤ pos i) ≤ℤ pos (2 ^ 63 - 1) }
-    ensures { result ≡ from +ℤ pos i }
-{
-    from.wrapping_add_unsigned(i)
-}
-
 // A lane's share of a worksharing loop; none where the schedule doesn't fix it.
 fn share_of<'k>(
-    place: &Place,
+    place: &TaskPlace,
     body: &'k Body,
     slot: u32,
     from: i64,
     to: i64,
     schedule: Schedule,
 ) -> Option<Frame<'k>>
-    ensures { IfSome result (λ f. (line : ℕ) (s : State) → part_of place.now f s ≡ shared schedule place.now line (total_of from to) (turn_from place.now (code_of body.now.stmts.items) slot from) s) }
+    ensures { IfSome result (λ f. (line : ℕ) (s : State) → frame_part place.now f s ≡ shared schedule place.now line (total_of from to) (turn_from place.now (code_of body.now.stmts.items) slot from) s) }
 {
     match schedule {
         Schedule::Even => {
@@ -100,8 +85,8 @@ fn share_of<'k>(
             Some(Frame::Turns {
                 body,
                 slot,
-                next: number_at(from, first),
-                end: number_at(from, first + count),
+                next: number_at(from, first, 0),
+                end: number_at(from, first, count),
             })
         }
         Schedule::Static(chunk) => Some(Frame::Chunks {
@@ -116,24 +101,24 @@ fn share_of<'k>(
     }
 }
 
-impl<'k> Lane<'k> {
+impl<'k> SerialLane<'k> {
     /// The task of this lane of a team, which begins with these locals and whose log goes on behind these bytes.
     pub fn start(
         alloc: Global,
-        place: Place<'k>,
+        place: TaskPlace<'k>,
         team: &'k Team,
         locals: Locals,
         log: Vec<u8>,
-    ) -> Result<Lane<'k>, Halt>
+    ) -> Result<SerialLane<'k>, Halt>
         ensures place { IfOk result (λ l. l.place ≡ place.entry) }
         ensures locals { IfOk result (λ l. l.locals ≡ locals) }
         ensures track { IfOk result (λ l. l.track ≡ record { log = log; count = 0 }) }
-        ensures whole { IfOk result (λ l. (memory : Words) (s : State) → left_of (stand l memory) s ≡ after (run l.place (code_of team.now.body.stmts.items) s) (put (event kind.End team.now.end 0 0))) }
+        ensures whole { IfOk result (λ l. (memory : Words) (s : State) → stand_left (stand l memory) s ≡ after (run l.place (code_of team.now.body.stmts.items) s) (put (event kind.End team.now.end 0 0))) }
         ensures memory { IfErr result (λ e. e ≡ halt.Memory) }
     {
         let mut rest = Vec::new(alloc);
         rest.push(Frame::Statements(team.body.stmts.as_slice()))?;
-        Ok(Lane {
+        Ok(SerialLane {
             place,
             end: team.end,
             locals,
@@ -145,11 +130,11 @@ impl<'k> Lane<'k> {
     // Sets a variable.
     fn assign(
         &mut self,
-        memory: &mut Memory,
+        memory: &mut SerialMemory,
         slot: u32,
         value: &Expr,
     ) -> Result<Option<Pause<'k>>, Halt>
-        ensures { (layout : ElementLayout) → TellsWords self.old.place.arrays layout → Takes layout (run self.old.place (tree.Set slot (term_of value.now) Done)) (stand self.old memory.old) (stand self.new memory.new) result }
+        ensures { (layout : ElementLayout) → TellsWords self.old.place.arrays layout → TakesPart layout (run self.old.place (tree.Set slot (term_of value.now) Done)) (stand self.old memory.old) (stand self.new memory.new) result }
     {
         let number = self.track.value(value, memory, &self.place, &self.locals)?;
         self.locals.set(slot, number);
@@ -159,19 +144,22 @@ impl<'k> Lane<'k> {
     // Stores a value to an element.
     fn store(
         &mut self,
-        memory: &mut Memory,
+        memory: &mut SerialMemory,
         array: u32,
         index: &Expr,
         value: &Expr,
         line: u32,
         site: u16,
     ) -> Result<Option<Pause<'k>>, Halt>
-        ensures { (layout : ElementLayout) → TellsWords self.old.place.arrays layout → Takes layout (run self.old.place (tree.Store array (term_of index.now) (term_of value.now) line site Done)) (stand self.old memory.old) (stand self.new memory.new) result }
+        ensures { (layout : ElementLayout) → TellsWords self.old.place.arrays layout → TakesPart layout (run self.old.place (tree.Store array (term_of index.now) (term_of value.now) line site Done)) (stand self.old memory.old) (stand self.new memory.new) result }
     {
         let at = self.track.value(index, memory, &self.place, &self.locals)?;
         let number = self.track.value(value, memory, &self.place, &self.locals)?;
         let Some(element) = self.place.element(array, at) else {
-            return Err(Halt::Index { line });
+            return Err(Halt::Stops {
+                why: StopWhy::Index,
+                line,
+            });
         };
         self.track.store(memory, &element, line, site, number)?;
         Ok(None)
@@ -180,12 +168,12 @@ impl<'k> Lane<'k> {
     // Goes on with one of two bodies.
     fn test(
         &mut self,
-        memory: &mut Memory,
+        memory: &mut SerialMemory,
         test: &Expr,
         if_true: &'k Body,
         if_false: &'k Body,
     ) -> Result<Option<Pause<'k>>, Halt>
-        ensures { (layout : ElementLayout) → TellsWords self.old.place.arrays layout → Takes layout (run self.old.place (tree.If (term_of test.now) (code_of if_true.now.stmts.items) (code_of if_false.now.stmts.items) Done)) (stand self.old memory.old) (stand self.new memory.new) result }
+        ensures { (layout : ElementLayout) → TellsWords self.old.place.arrays layout → TakesPart layout (run self.old.place (tree.If (term_of test.now) (code_of if_true.now.stmts.items) (code_of if_false.now.stmts.items) Done)) (stand self.old memory.old) (stand self.new memory.new) result }
     {
         let number = self.track.value(test, memory, &self.place, &self.locals)?;
         let body = chosen(number, if_true, if_false);
@@ -196,13 +184,13 @@ impl<'k> Lane<'k> {
     // Begins a loop.
     fn begin(
         &mut self,
-        memory: &mut Memory,
+        memory: &mut SerialMemory,
         slot: u32,
         from: &Expr,
         to: &Expr,
         body: &'k Body,
     ) -> Result<Option<Pause<'k>>, Halt>
-        ensures { (layout : ElementLayout) → TellsWords self.old.place.arrays layout → Takes layout (run self.old.place (tree.Loop slot (term_of from.now) (term_of to.now) (code_of body.now.stmts.items) Done)) (stand self.old memory.old) (stand self.new memory.new) result }
+        ensures { (layout : ElementLayout) → TellsWords self.old.place.arrays layout → TakesPart layout (run self.old.place (tree.Loop slot (term_of from.now) (term_of to.now) (code_of body.now.stmts.items) Done)) (stand self.old memory.old) (stand self.new memory.new) result }
     {
         let next = self.track.value(from, memory, &self.place, &self.locals)?;
         let end = self.track.value(to, memory, &self.place, &self.locals)?;
@@ -216,25 +204,28 @@ impl<'k> Lane<'k> {
     }
 
     // Forks a region.
-    fn fork(&mut self, memory: &mut Memory, team: &'k Team) -> Result<Option<Pause<'k>>, Halt>
-        ensures { (layout : ElementLayout) → Takes layout (run self.old.place (tree.Parallel team.now.span team.now.line team.now.end (code_of team.now.body.stmts.items) Done)) (stand self.old memory.old) (stand self.new memory.new) result }
+    fn fork(&mut self, memory: &mut SerialMemory, team: &'k Team) -> Result<Option<Pause<'k>>, Halt>
+        ensures { (layout : ElementLayout) → TakesPart layout (run self.old.place (tree.Parallel team.now.span team.now.line team.now.end (code_of team.now.body.stmts.items) Done)) (stand self.old memory.old) (stand self.new memory.new) result }
     {
-        self.track.put(memory, event(Kind::Region, team.line, u64::from(team.span)))?;
+        self.track.put(
+            memory,
+            event(Kind::Region, team.line, 0, u64::from(team.span)),
+        )?;
         Ok(Some(Pause::Fork(team)))
     }
 
     // Meets a barrier.
-    fn meet(&mut self, memory: &mut Memory, line: u32) -> Result<Option<Pause<'k>>, Halt>
-        ensures { (layout : ElementLayout) → Takes layout (part_of self.old.place (frame.Barrier line)) (stand self.old memory.old) (stand self.new memory.new) result }
+    fn meet(&mut self, memory: &mut SerialMemory, line: u32) -> Result<Option<Pause<'k>>, Halt>
+        ensures { (layout : ElementLayout) → TakesPart layout (frame_part self.old.place (frame.Barrier line)) (stand self.old memory.old) (stand self.new memory.new) result }
     {
-        self.track.put(memory, event(Kind::Barrier, line, 0))?;
+        self.track.put(memory, event(Kind::Barrier, line, 0, 0))?;
         Ok(Some(Pause::Barrier))
     }
 
     // Begins the lane's share of a worksharing loop.
     fn share(
         &mut self,
-        memory: &mut Memory,
+        memory: &mut SerialMemory,
         slot: u32,
         from: &Expr,
         to: &Expr,
@@ -243,7 +234,7 @@ impl<'k> Lane<'k> {
         end: u32,
         body: &'k Body,
     ) -> Result<Option<Pause<'k>>, Halt>
-        ensures { (layout : ElementLayout) (line : ℕ) → TellsWords self.old.place.arrays layout → Takes layout (run self.old.place (tree.For slot (term_of from.now) (term_of to.now) schedule nowait line end (code_of body.now.stmts.items) Done)) (stand self.old memory.old) (stand self.new memory.new) result }
+        ensures { (layout : ElementLayout) (line : ℕ) → TellsWords self.old.place.arrays layout → TakesPart layout (run self.old.place (tree.For slot (term_of from.now) (term_of to.now) schedule nowait line end (code_of body.now.stmts.items) Done)) (stand self.old memory.old) (stand self.new memory.new) result }
     {
         let first = self.track.value(from, memory, &self.place, &self.locals)?;
         let last = self.track.value(to, memory, &self.place, &self.locals)?;
@@ -279,7 +270,7 @@ impl<'k> Lane<'k> {
         next: i64,
         end: i64,
     ) -> Result<Option<Pause<'k>>, Halt>
-        ensures { (layout : ElementLayout) (memory : Words) → Takes layout (part_of self.old.place (frame.Turns body.entry slot next end)) (stand self.old memory) (stand self.new memory) result }
+        ensures { (layout : ElementLayout) (memory : Words) → TakesPart layout (frame_part self.old.place (frame.Turns body.entry slot next end)) (stand self.old memory) (stand self.new memory) result }
     {
         if is_past(next, end) {
             return Ok(None);
@@ -297,8 +288,12 @@ impl<'k> Lane<'k> {
     }
 
     // Goes on with statements.
-    fn next(&mut self, memory: &mut Memory, stmts: &'k [Stmt]) -> Result<Option<Pause<'k>>, Halt>
-        ensures { (layout : ElementLayout) → TellsWords self.old.place.arrays layout → Takes layout (part_of self.old.place (frame.Statements stmts.entry)) (stand self.old memory.old) (stand self.new memory.new) result }
+    fn next(
+        &mut self,
+        memory: &mut SerialMemory,
+        stmts: &'k [Stmt],
+    ) -> Result<Option<Pause<'k>>, Halt>
+        ensures { (layout : ElementLayout) → TellsWords self.old.place.arrays layout → TakesPart layout (frame_part self.old.place (frame.Statements stmts.entry)) (stand self.old memory.old) (stand self.new memory.new) result }
     {
         let Some((first, others)) = stmts.split_first() else {
             return Ok(None);
@@ -308,8 +303,12 @@ impl<'k> Lane<'k> {
     }
 
     // Executes a statement as far as can be: what is left of it is pushed.
-    fn statement(&mut self, memory: &mut Memory, stmt: &'k Stmt) -> Result<Option<Pause<'k>>, Halt>
-        ensures { (layout : ElementLayout) → TellsWords self.old.place.arrays layout → Takes layout (run self.old.place (stmt_code stmt.now Done)) (stand self.old memory.old) (stand self.new memory.new) result }
+    fn statement(
+        &mut self,
+        memory: &mut SerialMemory,
+        stmt: &'k Stmt,
+    ) -> Result<Option<Pause<'k>>, Halt>
+        ensures { (layout : ElementLayout) → TellsWords self.old.place.arrays layout → TakesPart layout (run self.old.place (stmt_code stmt.now Done)) (stand self.old memory.old) (stand self.new memory.new) result }
     {
         match stmt {
             Stmt::Set { slot, value } => self.assign(memory, *slot, value),
@@ -366,7 +365,7 @@ impl<'k> Lane<'k> {
         chunk: u32,
         next: u64,
     ) -> Result<Option<Pause<'k>>, Halt>
-        ensures { (layout : ElementLayout) (memory : Words) → Takes layout (part_of self.old.place (frame.Chunks body.entry slot from to chunk next)) (stand self.old memory) (stand self.new memory) result }
+        ensures { (layout : ElementLayout) (memory : Words) → TakesPart layout (frame_part self.old.place (frame.Chunks body.entry slot from to chunk next)) (stand self.old memory) (stand self.new memory) result }
     {
         if chunk == 0 {
             return Err(Halt::Refused);
@@ -385,14 +384,18 @@ impl<'k> Lane<'k> {
         if is_skipped(&self.place, chunk, next) {
             return Ok(None);
         }
-        self.locals.set(slot, number_at(from, next));
+        self.locals.set(slot, number_at(from, next, 0));
         self.rest.push(Frame::Statements(body.stmts.as_slice()))?;
         Ok(None)
     }
 
     // Goes on with a frame.
-    fn go_on(&mut self, memory: &mut Memory, next: Frame<'k>) -> Result<Option<Pause<'k>>, Halt>
-        ensures { (layout : ElementLayout) → TellsWords self.old.place.arrays layout → Takes layout (part_of self.old.place next.entry) (stand self.old memory.old) (stand self.new memory.new) result }
+    fn go_on(
+        &mut self,
+        memory: &mut SerialMemory,
+        next: Frame<'k>,
+    ) -> Result<Option<Pause<'k>>, Halt>
+        ensures { (layout : ElementLayout) → TellsWords self.old.place.arrays layout → TakesPart layout (frame_part self.old.place next.entry) (stand self.old memory.old) (stand self.new memory.new) result }
     {
         match next {
             Frame::Statements(stmts) => self.next(memory, stmts),
@@ -415,16 +418,16 @@ impl<'k> Lane<'k> {
     }
 
     // Ends the task, of which nothing is left but its End.
-    fn finish(&mut self, memory: &mut Memory) -> Result<Option<Pause<'k>>, Halt>
+    fn finish(&mut self, memory: &mut SerialMemory) -> Result<Option<Pause<'k>>, Halt>
         requires { self.old.rest.items ≡ [] }
         ensures { (layout : ElementLayout) → Pauses layout (stand self.old memory.old) (stand self.new memory.new) result }
     {
-        self.track.put(memory, event(Kind::End, self.end, 0))?;
+        self.track.put(memory, event(Kind::End, self.end, 0, 0))?;
         Ok(Some(Pause::Ended))
     }
 
     // Goes on with the frame that is next.
-    fn step(&mut self, memory: &mut Memory) -> Result<Option<Pause<'k>>, Halt>
+    fn step(&mut self, memory: &mut SerialMemory) -> Result<Option<Pause<'k>>, Halt>
         ensures { (layout : ElementLayout) → TellsWords self.old.place.arrays layout → Pauses layout (stand self.old memory.old) (stand self.new memory.new) result }
     {
         let Some(next) = self.rest.pop() else {
@@ -434,7 +437,7 @@ impl<'k> Lane<'k> {
     }
 
     /// Goes on with the task until it stands still, or stops.
-    pub fn resume(&mut self, memory: &mut Memory) -> Result<Pause<'k>, Halt>
+    pub fn resume(&mut self, memory: &mut SerialMemory) -> Result<Pause<'k>, Halt>
         ensures { (layout : ElementLayout) → TellsWords self.old.place.arrays layout → Resumes layout (stand self.old memory.old) (stand self.new memory.new) result }
     {
         'steps: for _ in 0..u64::MAX {

@@ -1,6 +1,6 @@
 //! One task of a serial run: it runs over a plain vector of words, alone, and stands still where others have to go on.
 //!
-//! A lane (`Lane`) keeps what is left of its task as a stack of frames, so it needs no thread to wait in: `resume` goes on until the task
+//! A lane (`SerialLane`) keeps what is left of its task as a stack of frames, so it needs no thread to wait in: `resume` goes on until the task
 //! meets a barrier, has put the record of a region that has to run first, has ended (`Pause`), or stops (`Halt`); and the next call goes on
 //! from there. What the task did is spelled into its log, record by record, and no record is kept. All tasks of a run share one budget of
 //! records.
@@ -25,8 +25,8 @@ mod value;
 
 pub use frame::{Frame, Pause};
 pub use halt::Halt;
-pub use lane::Lane;
+pub use lane::SerialLane;
 pub use laws::{ended_tasks_have_their_trace, stopped_tasks_stop_as_told};
-pub use memory::Memory;
-pub use task_place::{Locals, Place};
+pub use memory::SerialMemory;
+pub use task_place::{Locals, TaskPlace};
 pub use track::Track;

@@ -3,12 +3,12 @@ ghost use Rattle.std.specs.Prelude.{◌≡◌, slice_index, slice_set};
 
 /// The words of all elements, and how many records may still be made.
 #[derive(Drop)]
-pub struct Memory {
+pub struct SerialMemory {
     pub words: Vec<u64>,
     pub left: u32,
 }
 
-impl Memory {
+impl SerialMemory {
     /// A word; 0 where there is none.
     pub fn load(&self, word: usize) -> u64
         ensures { result ≡ slice_index self.now.words.items word }

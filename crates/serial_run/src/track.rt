@@ -2,17 +2,18 @@
 ghost use Rattle.std.specs.Prelude.{◌≡◌, ◌+◌, ◌-◌, ◌<◌, ◌++◌, IfOk, IfErr, IsErrOf, List, ℕ, ℤ};
 ghost use Rattle.log_format.specs.Fitting.{IsWidth, fitted};
 ghost use Rattle.log_format.specs.Spelling.{spelling};
-ghost use Rattle.kernel_model.specs.State.{put, event};
+ghost use Rattle.kernel_model.specs.State.{put};
 ghost use Rattle.kernel_model.specs.Trace.{changed};
 ghost use Rattle.kernel_model.specs.Value.{access, read, Element as Meant};
 ghost use Rattle.log_format.specs.declared.record.Kind.TheVariants as kind;
 ghost use Rattle.serial_run.specs.declared.halt.Halt.TheVariants as halt;
-ghost use Rattle.serial_run.specs.Going.{Goes, Logs, MakesRoom, Marks, progress};
-ghost use Rattle.serial_run.specs.Placing.{ElementLayout, StandsAt};
+ghost use Rattle.serial_run.specs.Going.{RunsPart, LogsRecord, FindsRoom, Marks, serial_progress};
+ghost use Rattle.serial_run.specs.Placing.{ElementLayout, IsPlacedAt};
 ghost use Rattle.task_place.specs.Placing.{meant};
 
 use crate::halt::Halt;
-use crate::memory::Memory;
+use crate::memory::SerialMemory;
+use kernel_model::StopWhy;
 use kernel_syntax::fit;
 use log_format::{Kind, RECORD_LIMIT, Record, encode};
 use task_place::{Element, access};
@@ -24,27 +25,16 @@ pub struct Track {
     pub count: u32,
 }
 
-/// The record of a step that is no access.
-pub(crate) fn event(kind: Kind, line: u32, value: u64) -> Record
-    ensures { result ≡ event kind line 0 value }
-{
-    Record {
-        kind,
-        size: 0,
-        site: 0,
-        line,
-        addr: 0,
-        value,
-    }
-}
-
 impl Track {
     // Whether one record more may be made.
-    fn make_room(&self, memory: &Memory, line: u32) -> Result<(), Halt>
-        ensures { MakesRoom (progress self.now memory.now) line result }
+    fn make_room(&self, memory: &SerialMemory, line: u32) -> Result<(), Halt>
+        ensures { FindsRoom (serial_progress self.now memory.now) line result }
     {
         if self.count >= RECORD_LIMIT {
-            return Err(Halt::LogFull { line });
+            return Err(Halt::Stops {
+                why: StopWhy::LogFull,
+                line,
+            });
         }
         if memory.left == 0 {
             return Err(Halt::Long);
@@ -53,10 +43,10 @@ impl Track {
     }
 
     // Spells a record.
-    fn spell(&mut self, memory: &mut Memory, due: &Record) -> Result<(), Halt>
+    fn spell(&mut self, memory: &mut SerialMemory, due: &Record) -> Result<(), Halt>
         requires room { self.old.count < 4194304 }
         requires some { 0 < memory.old.left }
-        ensures logs { IfOk result (λ _. Logs due.now (progress self.old memory.old) (progress self.new memory.new)) }
+        ensures logs { IfOk result (λ _. LogsRecord due.now (serial_progress self.old memory.old) (serial_progress self.new memory.new)) }
         ensures memory { IfErr result (λ e. e ≡ halt.Memory) }
     {
         self.log.extend_from_slice(&encode(due))?;
@@ -66,8 +56,8 @@ impl Track {
     }
 
     /// Puts a record that is no access.
-    pub(crate) fn put(&mut self, memory: &mut Memory, due: Record) -> Result<(), Halt>
-        ensures { Marks due (progress self.old memory.old) (progress self.new memory.new) result }
+    pub(crate) fn put(&mut self, memory: &mut SerialMemory, due: Record) -> Result<(), Halt>
+        ensures { Marks due (serial_progress self.old memory.old) (serial_progress self.new memory.new) result }
     {
         self.make_room(memory, due.line)?;
         self.spell(memory, &due)
@@ -76,13 +66,13 @@ impl Track {
     /// Reads an element.
     pub(crate) fn read(
         &mut self,
-        memory: &mut Memory,
+        memory: &mut SerialMemory,
         element: &Element,
         line: u32,
         site: u16,
     ) -> Result<i64, Halt>
         requires { IsWidth element.now.width }
-        ensures { (layout : ElementLayout) (slots : List ℤ) → StandsAt layout element.now → Goes layout (read (meant element.now) site line) slots slots (progress self.old memory.old) (progress self.new memory.new) result }
+        ensures { (layout : ElementLayout) (slots : List ℤ) → IsPlacedAt layout element.now → RunsPart layout (read (meant element.now) site line) slots slots (serial_progress self.old memory.old) (serial_progress self.new memory.new) result }
     {
         self.make_room(memory, line)?;
         let bits = memory.load(element.word);
@@ -95,14 +85,14 @@ impl Track {
     /// Stores a value to an element.
     pub(crate) fn store(
         &mut self,
-        memory: &mut Memory,
+        memory: &mut SerialMemory,
         element: &Element,
         line: u32,
         site: u16,
         value: i64,
     ) -> Result<(), Halt>
         requires { IsWidth element.now.width }
-        ensures { (layout : ElementLayout) (slots : List ℤ) → StandsAt layout element.now → Goes layout (put (access kind.Write (meant element.now) site line (fitted value element.now.width))) slots slots (progress self.old memory.old) (progress self.new memory.new) result }
+        ensures { (layout : ElementLayout) (slots : List ℤ) → IsPlacedAt layout element.now → RunsPart layout (put (access kind.Write (meant element.now) site line (fitted value element.now.width))) slots slots (serial_progress self.old memory.old) (serial_progress self.new memory.new) result }
     {
         self.make_room(memory, line)?;
         let fitted = fit(value, element.width);

@@ -1,40 +1,35 @@
 //! The value of an expression.
-ghost use Rattle.std.specs.Prelude.{◌≡◌, List, ℕ, ℤ, ok_or};
-ghost use Rattle.kernel_syntax.specs.Arithmetic.{applied};
+ghost use Rattle.std.specs.Prelude.{List, ℤ};
 ghost use Rattle.kernel_syntax.specs.Program.{term_of};
 ghost use Rattle.kernel_model.specs.Value.{element_at, loaded, value};
-ghost use Rattle.serial_run.specs.Going.{Goes, progress};
+ghost use Rattle.serial_run.specs.Going.{RunsPart, serial_progress};
 ghost use Rattle.serial_run.specs.Placing.{ElementLayout, TellsWords};
 
 use crate::halt::Halt;
-use crate::memory::Memory;
+use crate::memory::SerialMemory;
 use crate::track::Track;
-use kernel_model::negate;
-use kernel_syntax::{Expr, Op, apply};
-use task_place::{Locals, Place};
-
-// The operation on two values, or the stop of a zero divisor.
-fn operate(op: Op, line: u32, left: i64, right: i64) -> Result<i64, Halt>
-    ensures { result ≡ ok_or (applied op left right) (Halt.DivZero line) }
-{
-    apply(op, left, right).ok_or(Halt::DivZero { line })
-}
+use kernel_model::{StopWhy, negate};
+use kernel_syntax::Expr;
+use task_place::{Locals, TaskPlace, operate};
 
 impl Track {
     // Reads an element, after its index.
     fn load(
         &mut self,
-        memory: &mut Memory,
-        place: &Place,
+        memory: &mut SerialMemory,
+        place: &TaskPlace,
         array: u32,
         index: i64,
         line: u32,
         site: u16,
     ) -> Result<i64, Halt>
-        ensures { (layout : ElementLayout) (slots : List ℤ) → TellsWords place.now.arrays layout → Goes layout (loaded (element_at place.now.arrays array index) line site) slots slots (progress self.old memory.old) (progress self.new memory.new) result }
+        ensures { (layout : ElementLayout) (slots : List ℤ) → TellsWords place.now.arrays layout → RunsPart layout (loaded (element_at place.now.arrays array index) line site) slots slots (serial_progress self.old memory.old) (serial_progress self.new memory.new) result }
     {
         let Some(element) = place.element(array, index) else {
-            return Err(Halt::Index { line });
+            return Err(Halt::Stops {
+                why: StopWhy::Index,
+                line,
+            });
         };
         self.read(memory, &element, line, site)
     }
@@ -43,11 +38,11 @@ impl Track {
     pub(crate) fn value(
         &mut self,
         expr: &Expr,
-        memory: &mut Memory,
-        place: &Place,
+        memory: &mut SerialMemory,
+        place: &TaskPlace,
         locals: &Locals,
     ) -> Result<i64, Halt>
-        ensures { (layout : ElementLayout) → TellsWords place.now.arrays layout → Goes layout (value place.now (term_of expr.now)) locals.now.slots.items locals.now.slots.items (progress self.old memory.old) (progress self.new memory.new) result }
+        ensures { (layout : ElementLayout) → TellsWords place.now.arrays layout → RunsPart layout (value place.now (term_of expr.now)) locals.now.slots.items locals.now.slots.items (serial_progress self.old memory.old) (serial_progress self.new memory.new) result }
     {
         match expr {
             Expr::Number(number) => Ok(*number),
@@ -75,7 +70,15 @@ impl Track {
             } => {
                 let first = self.value(left, memory, place, locals)?;
                 let second = self.value(right, memory, place, locals)?;
-                operate(*op, *line, first, second)
+                operate(
+                    *op,
+                    first,
+                    second,
+                    Halt::Stops {
+                        why: StopWhy::DivZero,
+                        line: *line,
+                    },
+                )
             }
         }
     }

@@ -2,6 +2,7 @@
 use Rattle.std.proofs.Common.{◌≡◌, refl, ap, sym, ◌∙◌, subst, ℕ, zero, suc, ◌+◌, ◌<◌, ◌≤◌, List, [], ◌∷◌, length, get_or, Result, Ok, Err, arith}
 use Rattle.std.specs.Prelude.{IfOk, IsErr}
 use Rattle.std.proofs.lemmas.List.Elements.{All-cons, All-head, All-tail}
+use Rattle.log_format.specs.Limit.{task_limit}
 use Rattle.sw_base.specs.declared.path.Step.{Step}
 use Rattle.log_format.specs.declared.record.Kind.TheVariants as kind
 use Rattle.kernel_syntax.specs.declared.syntax.Array.{Array}
@@ -14,7 +15,7 @@ use Rattle.serial_run.specs.Placing.{ElementLayout}
 use Rattle.serial_team.specs.declared.member.Stage.TheVariants as stage
 use Rattle.serial_team.specs.declared.member.Member.{Member}
 use Rattle.serial_team.specs.Members.{all_idle, idle_member, Pool, pool_at, WholeLog, MemberValue, later, idle, path_in, BeginTeam}
-use Rattle.serial_team.specs.Running.{LaneRuns, waits, ends, forks, TeamRuns, no_lane, lane, RanTo, GoesFrom, HaveArrays, RanBelow, most_below, past_region}
+use Rattle.serial_team.specs.Running.{LaneRuns, waits, ends, forks, TeamRuns, no_lane, lane, RanTo, GoesFrom, HaveArrays, RanBelow, past_region}
 
 module _ (layout : ElementLayout) where
   -- a task stays where it runs
@@ -43,7 +44,7 @@ module _ (layout : ElementLayout) where
           runs =
               forks path x w s team below.region.before below.region.after (pool_at z.stand) below.region.ran.phases r.work a below.deep
               (subst (λ (l : List Array). BeginTeam l team s.slots below.region.before) (sym own) below.region.begin) below.region.ran.runs
-              (subst (λ (l : List WholeLog). length l ≤ most_below) below.region.logs below.few)
+              (subst (λ (l : List WholeLog). length l ≤ task_limit) below.region.logs below.few)
               (subst (λ (l : List WholeLog). LaneRuns layout path (later (record x { stand = s; forked = x.forked + 1; below = l }) (pool_at z.stand)) r.work w) below.region.logs
               (subst (λ (v : MemberValue). LaneRuns layout path v r.work w) below.is r.runs));
         };

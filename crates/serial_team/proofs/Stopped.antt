@@ -1,22 +1,22 @@
 -- How a task and the lanes of a team stop, piece by piece.
 use Rattle.std.proofs.Common.{◌≡◌, refl, sym, subst, ℕ, ◌+◌, ◌<◌, ◌≤◌, true, false, List, [], ◌∷◌, length, Option, Some, None, Result, Ok, Err, All}
 use Rattle.std.specs.Prelude.{IfErr, IsErr}
+use Rattle.log_format.specs.Limit.{task_limit}
 use Rattle.sw_base.specs.declared.path.Step.{Step}
 use Rattle.log_format.specs.declared.record.Kind.TheVariants as kind
 use Rattle.kernel_syntax.specs.declared.syntax.Array.{Array}
 use Rattle.kernel_syntax.specs.Tree.{TeamTree}
-use Rattle.kernel_model.specs.State as model
+use Rattle.kernel_model.specs.declared.stop.StopWhy.TheVariants as reason
 use Rattle.kernel_model.specs.State.{event}
 use Rattle.serial_run.specs.declared.halt.Halt.{Halt}
 use Rattle.serial_run.specs.declared.halt.Halt.TheVariants as halt
 use Rattle.serial_run.specs.Placing.{ElementLayout, TellsWords}
-use Rattle.serial_run.specs.Stepping.{Stand, Advances, HaltsSo, left_of}
+use Rattle.serial_run.specs.Stepping.{Stand, Advances, HaltsSo, stand_left}
 use Rattle.serial_team.specs.declared.member.Stage.TheVariants as stage
 use Rattle.serial_team.specs.declared.stop.Stop.{Stop}
 use Rattle.serial_team.specs.declared.stop.Stop.TheVariants as stop
-use Rattle.serial_team.specs.declared.stop.StopWhy.TheVariants as why
 use Rattle.serial_team.specs.Members.{Pool, pool_at, WholeLog, MemberValue, later, path_in, BeginTeam}
-use Rattle.serial_team.specs.Running.{most_below, RanBelow, RanTo, RanPhase, RanRegion}
+use Rattle.serial_team.specs.Running.{RanBelow, RanTo, DidPhase, DidRegion}
 use Rattle.serial_team.specs.Stopping.{StopAt, LongAt, LaneStops, TeamGoes, PhasesStop, LaneLong, TeamLong, PhasesLong, bounded, LaneStopped, TeamWent, PhasesStopped, IfStopped, is_stopped, TellsHalt, RegionStopped, RegionLong, StopsBelow, LongBelow, StopsFrom, told_first}
 
 -- ---- answers
@@ -32,11 +32,9 @@ tells_bounded arrays layout tells = record { count = tells.count; word = tells.w
 
 module _ (layout : ElementLayout) (path : List Step) where
   -- a task that stops of itself
-  pub halts_so : (x : MemberValue) (y : Stand) (h : Halt) (e : Stop) → TellsHalt path y.progress.count h e → HaltsSo layout (left_of x.stand) x.stand y h → HaltsSo (bounded layout) (left_of x.stand) x.stand y h
+  pub halts_so : (x : MemberValue) (y : Stand) (h : Halt) (e : Stop) → TellsHalt path y.progress.count h e → HaltsSo layout (stand_left x.stand) x.stand y h → HaltsSo (bounded layout) (stand_left x.stand) x.stand y h
       → IfStopped (LaneStopped layout path x (pool_at y)) (LaneLong layout path x) e
-  halts_so x y (halt.DivZero line) e tells m b = subst (IfStopped (LaneStopped layout path x (pool_at y)) (LaneLong layout path x)) (sym tells) (record { work = _; stops = LaneStops.halts path x y.slots y.progress model.DivZero line m })
-  halts_so x y (halt.Index line) e tells m b = subst (IfStopped (LaneStopped layout path x (pool_at y)) (LaneLong layout path x)) (sym tells) (record { work = _; stops = LaneStops.halts path x y.slots y.progress model.Index line m })
-  halts_so x y (halt.LogFull line) e tells m b = subst (IfStopped (LaneStopped layout path x (pool_at y)) (LaneLong layout path x)) (sym tells) (record { work = _; stops = LaneStops.halts path x y.slots y.progress model.LogFull line m })
+  halts_so x y (halt.Stops why line) e tells m b = subst (IfStopped (LaneStopped layout path x (pool_at y)) (LaneLong layout path x)) (sym tells) (record { work = _; stops = LaneStops.halts path x y.slots y.progress why line m })
   halts_so x y halt.Long e tells m b =
       let due = b.due refl in
       subst (IfStopped (LaneStopped layout path x (pool_at y)) (LaneLong layout path x)) (sym (tells m.below)) (LaneLong.at_record path x y.slots y.progress due.0 due.1 b.none b.below)
@@ -60,14 +58,14 @@ module _ (layout : ElementLayout) (path : List Step) where
     long_in_region long r w a =
         LaneLong.in_lanes path (record x { stand = w }) x.stand team r.before long a deep (subst (λ (l : List Array). BeginTeam l team x.stand.slots r.before) (sym own) r.begin) r.runs_out
 
-    pub stops_too_many : (logs : List WholeLog) → RanRegion layout arrays team x.stand.slots path x.forked (pool_at x.stand) p x.below logs → most_below < length logs
-        → StopsBelow layout path team x p (record { path = path; line = team.line; why = why.Tasks })
+    pub stops_too_many : (logs : List WholeLog) → DidRegion layout arrays team x.stand.slots path x.forked (pool_at x.stand) p x.below logs → task_limit < length logs
+        → StopsBelow layout path team x p (record { path = path; line = team.line; why = reason.Tasks })
     stops_too_many logs r many w a = record {
       work = _;
       stops =
           LaneStops.too_many path (record x { stand = w }) x.stand team r.before r.after p r.ran.phases a deep
           (subst (λ (l : List Array). BeginTeam l team x.stand.slots r.before) (sym own) r.begin) r.ran.runs
-          (subst (λ (l : List WholeLog). most_below < length l) r.logs many);
+          (subst (λ (l : List WholeLog). task_limit < length l) r.logs many);
     }
 
   -- a task that goes on past a region
@@ -79,14 +77,14 @@ module _ (layout : ElementLayout) (path : List Step) where
         stops =
             LaneStops.onward path x s team below.region.before below.region.after (pool_at z.stand) p below.region.ran.phases r.work first a below.deep
             (subst (λ (l : List Array). BeginTeam l team s.slots below.region.before) (sym own) below.region.begin) below.region.ran.runs
-            (subst (λ (l : List WholeLog). length l ≤ most_below) below.region.logs below.few)
+            (subst (λ (l : List WholeLog). length l ≤ task_limit) below.region.logs below.few)
             (subst (λ (l : List WholeLog). LaneStops layout path (later (record x { stand = s; forked = x.forked + 1; below = l }) (pool_at z.stand)) r.work p first) below.region.logs
             (subst (λ (v : MemberValue). LaneStops layout path v r.work p first) below.is r.stops));
       };
       runs_out = λ long l.
           LaneLong.past_lanes path x s team below.region.before below.region.after (pool_at z.stand) below.region.ran.phases long a below.deep
           (subst (λ (l : List Array). BeginTeam l team s.slots below.region.before) (sym own) below.region.begin) below.region.ran.runs
-          (subst (λ (l : List WholeLog). length l ≤ most_below) below.region.logs below.few)
+          (subst (λ (l : List WholeLog). length l ≤ task_limit) below.region.logs below.few)
           (subst (λ (l : List WholeLog). LaneLong layout path (later (record x { stand = s; forked = x.forked + 1; below = l }) (pool_at z.stand)) long) below.region.logs
           (subst (λ (v : MemberValue). LaneLong layout path v long) below.is l));
     }
@@ -198,7 +196,7 @@ module _ (layout : ElementLayout) (at : List Step) (number : ℕ) where
     pub stops : (r : Pool) (first : StopAt) → PhasesStopped layout at number ys q r first → PhasesStopped layout at number xs p r first
     pub runs_out : (long : LongAt) → PhasesLong layout at number ys q long → PhasesLong layout at number xs p long
 
-  pub phases_stop_more : (xs ys zs : List MemberValue) (p q r : Pool) → PhasesStopFrom xs p ys q → RanPhase layout at number ys q zs r → All (λ (z : MemberValue). z.stage ≡ stage.Waits) zs → PhasesStopFrom xs p zs r
+  pub phases_stop_more : (xs ys zs : List MemberValue) (p q r : Pool) → PhasesStopFrom xs p ys q → DidPhase layout at number ys q zs r → All (λ (z : MemberValue). z.stage ≡ stage.Waits) zs → PhasesStopFrom xs p zs r
   phases_stop_more xs ys zs p q r from one wait = record {
     stops = λ s first stopped. from.stops s first (record { phases = _; stops = PhasesStop.next at number ys zs q r s one.works stopped.phases first one.runs wait stopped.stops });
     runs_out = λ long l. from.runs_out long (PhasesLong.past_phase at number ys zs q r one.works long one.runs wait l);

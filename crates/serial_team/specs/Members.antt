@@ -9,8 +9,8 @@ use Rattle.kernel_syntax.specs.declared.syntax.Array.{Array}
 use Rattle.kernel_syntax.specs.Tree.{TeamTree}
 use Rattle.kernel_model.specs.State.{State, after, put, event}
 use Rattle.kernel_model.specs.Trace.{run}
-use Rattle.serial_run.specs.declared.memory.Memory.{Memory}
-use Rattle.serial_run.specs.Stepping.{Stand, left_of, stand}
+use Rattle.serial_run.specs.declared.memory.SerialMemory.{SerialMemory}
+use Rattle.serial_run.specs.Stepping.{Stand, stand_left, stand}
 use Rattle.serial_team.specs.declared.member.Member.{Member}
 use Rattle.serial_team.specs.declared.member.Stage.{Stage}
 use Rattle.serial_team.specs.declared.member.TaskLog.{TaskLog}
@@ -20,7 +20,7 @@ pub record Pool : Type 0 where
   pub words : List ℕ
   pub left : ℕ
 
-abbrev pub pool : Memory → Pool
+abbrev pub pool : SerialMemory → Pool
 pool memory = record { words = memory.words.items; left = memory.left }
 
 abbrev pub pool_at : Stand → Pool
@@ -54,7 +54,7 @@ later x p = record x { stand = amid x.stand p }
 abbrev pub idle : MemberValue → MemberValue
 idle x = later x (record { words = []; left = 0 })
 
-abbrev pub seen : Memory → Member → MemberValue
+abbrev pub seen : SerialMemory → Member → MemberValue
 seen memory m = record { stand = stand m.lane memory; forked = m.forked; below = map whole_log m.below.items; stage = m.stage }
 
 -- lanes between two phases, seen without what all tasks share
@@ -86,7 +86,7 @@ pub record BeginsLane (arrays : List Array) (team : TeamTree) (slots : List ℤ)
   pub locals : x.stand.slots ≡ slots
   pub log : x.stand.progress.log ≡ log_header FORMAT
   pub none : x.stand.progress.count ≡ 0
-  pub whole : (s : State) → left_of x.stand s ≡ after (run x.stand.at team.body s) (put (event kind.End team.end 0 0))
+  pub whole : (s : State) → stand_left x.stand s ≡ after (run x.stand.at team.body s) (put (event kind.End team.end 0 0))
   pub unforked : x.forked ≡ 0
   pub none_below : x.below ≡ []
 

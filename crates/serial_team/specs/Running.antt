@@ -2,6 +2,7 @@
 -- a team go on one after another, and the next phase begins once all have.
 use Rattle.std.specs.Prelude.{◌≡◌, ℕ, ◌+◌, List, [], ◌∷◌, ◌++◌, ◌<◌, ◌≤◌, All, length, slice_index, replicate, ℤ, pos, Option, Some, None}
 use Rattle.std.specs.List.{flat_map}
+use Rattle.log_format.specs.Limit.{task_limit}
 use Rattle.sw_base.specs.declared.path.Step.{Step}
 use Rattle.log_format.specs.declared.record.Record.{Record}
 use Rattle.log_format.specs.declared.record.Kind.{Kind}
@@ -33,10 +34,6 @@ abbrev pub beside : List Work → TeamWork
 beside [] = NoWork
 beside (work ∷ works) = Beside work (beside works)
 
--- the most tasks below one
-abbrev pub most_below : ℕ
-most_below = 65535
-
 -- a lane that stands there after the record of a region, once the region has run and its lanes stand so
 abbrev pub past_region : List Step → MemberValue → Stand → List MemberValue → Pool → MemberValue
 past_region path x y ys p = later (record x { stand = y; forked = x.forked + 1; below = x.below ++ flat_map (logs_of_member path x.forked) ys }) p
@@ -51,7 +48,7 @@ mutual
     forks : (path : List Step) (x z : MemberValue) (y : Stand) (team : TeamTree) (xs ys : List MemberValue) (p : Pool) (phases : Phases) (more : Work)
         → (a : Advances layout x.stand y (event kind.Region team.line 0 team.span ∷ []) (record { team = team; slots = y.slots } ∷ []))
         → length path < 4 → BeginTeam y.at.arrays team y.slots xs → PhasesRun layout path x.forked xs (pool_at y) phases ys p
-        → length (past_region path x y ys p).below ≤ most_below → LaneRuns layout path (past_region path x y ys p) more z
+        → length (past_region path x y ys p).below ≤ task_limit → LaneRuns layout path (past_region path x y ys p) more z
         → LaneRuns layout path x (put_all layout x.stand.progress.words a.makes.plain (Fork team.line team.span phases more)) z
 
   -- the lanes of the region of this number did these works, one after another
@@ -90,7 +87,7 @@ abbrev pub HaveArrays : List Array → List MemberValue → Type 0
 HaveArrays arrays xs = All (λ (x : MemberValue). x.stand.at.arrays ≡ arrays) xs
 
 -- the lanes of a team did a phase
-pub record RanPhase (layout : ElementLayout) (at : List Step) (number : ℕ) (xs : List MemberValue) (p : Pool) (ys : List MemberValue) (q : Pool) : Type 0 where
+pub record DidPhase (layout : ElementLayout) (at : List Step) (number : ℕ) (xs : List MemberValue) (p : Pool) (ys : List MemberValue) (q : Pool) : Type 0 where
   pub works : List Work
   pub runs : TeamRuns layout at number xs p works ys q
 
@@ -100,7 +97,7 @@ pub record RanPhases (layout : ElementLayout) (at : List Step) (number : ℕ) (x
   pub runs : PhasesRun layout at number xs p phases ys q
 
 -- the region of a task ran, from these locals, and its logs were handed on
-pub record RanRegion (layout : ElementLayout) (arrays : List Array) (team : TeamTree) (slots : List ℤ) (at : List Step) (number : ℕ) (p q : Pool) (old new : List WholeLog) : Type 0 where
+pub record DidRegion (layout : ElementLayout) (arrays : List Array) (team : TeamTree) (slots : List ℤ) (at : List Step) (number : ℕ) (p q : Pool) (old new : List WholeLog) : Type 0 where
   pub before : List MemberValue
   pub after : List MemberValue
   pub begin : BeginTeam arrays team slots before
@@ -111,13 +108,13 @@ pub record RanRegion (layout : ElementLayout) (arrays : List Array) (team : Team
 pub record RanBelow (layout : ElementLayout) (path : List Step) (team : TeamTree) (arrays : List Array) (x y : MemberValue) : Type 0 where
   pub logs : List WholeLog
   pub deep : length path < 4
-  pub few : length logs ≤ most_below
-  pub region : RanRegion layout arrays team x.stand.slots path x.forked (pool_at x.stand) (pool_at y.stand) x.below logs
+  pub few : length logs ≤ task_limit
+  pub region : DidRegion layout arrays team x.stand.slots path x.forked (pool_at x.stand) (pool_at y.stand) x.below logs
   pub is : y ≡ later (record x { forked = x.forked + 1; below = logs }) (pool_at y.stand)
 
 -- The root of a kernel ran to its end over words that were 0, with room for so many records in all. These are the logs of all tasks, and
 -- the words at the end.
-pub record RanRoot (layout : ElementLayout) (program : Program) (left : ℕ) (logs : List WholeLog) (words : List ℕ) : Type 0 where
+pub record DidRoot (layout : ElementLayout) (program : Program) (left : ℕ) (logs : List WholeLog) (words : List ℕ) : Type 0 where
   pub before : MemberValue
   pub after : MemberValue
   pub work : Work

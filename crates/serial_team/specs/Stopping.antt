@@ -1,6 +1,7 @@
 -- A serial run that stops: the lanes that come later in the phase still go on to their barrier, their end or their stop, and the first stop
 -- in the order of lanes is told. And one that would make more records than it may, which goes on no further.
 use Rattle.std.specs.Prelude.{◌≡◌, ◌<◌, ◌≤◌, ◌+◌, ℕ, List, [], ◌∷◌, All, length, replicate, ℤ, pos, Bool, true, false, Option, Some, None, Result, Ok, Err}
+use Rattle.log_format.specs.Limit.{record_limit, task_limit}
 use Rattle.sw_base.specs.declared.path.Step.{Step}
 use Rattle.log_format.specs.declared.record.Kind.TheVariants as kind
 use Rattle.kernel_syntax.specs.declared.syntax.Array.{Array}
@@ -8,23 +9,21 @@ use Rattle.kernel_syntax.specs.Layout.{elements}
 use Rattle.kernel_syntax.specs.Program.{Program}
 use Rattle.kernel_syntax.specs.Tree.{TeamTree}
 use Rattle.kernel_model.specs.Effect.{Halted}
-use Rattle.kernel_model.specs.State as model
+use Rattle.kernel_model.specs.declared.stop.StopWhy.{StopWhy}
+use Rattle.kernel_model.specs.declared.stop.StopWhy.TheVariants as reason
 use Rattle.kernel_model.specs.State.{event}
-use Rattle.kernel_model.specs.Trace.{log_limit}
 use Rattle.history_model.specs.Work.{Work, Rest, Fork, Phases, NoPhase, Phase}
 use Rattle.serial_run.specs.declared.halt.Halt.{Halt}
 use Rattle.serial_run.specs.declared.halt.Halt.TheVariants as halt
-use Rattle.serial_run.specs.Going.{Progress, Made}
+use Rattle.serial_run.specs.Going.{SerialProgress, RanPart}
 use Rattle.serial_run.specs.Placing.{OfRun, ElementLayout}
-use Rattle.serial_run.specs.Stepping.{Stand, Advances, left_of}
+use Rattle.serial_run.specs.Stepping.{Stand, Advances, stand_left}
 use Rattle.serial_team.specs.declared.member.Stage.{Stage}
 use Rattle.serial_team.specs.declared.member.Stage.TheVariants as stage
 use Rattle.serial_team.specs.declared.stop.Stop.{Stop}
 use Rattle.serial_team.specs.declared.stop.Stop.TheVariants as stop
-use Rattle.serial_team.specs.declared.stop.StopWhy.{StopWhy}
-use Rattle.serial_team.specs.declared.stop.StopWhy.TheVariants as why
 use Rattle.serial_team.specs.Members.{Pool, pool_at, MemberValue, later, path_in, BeginsLane, BeginTeam}
-use Rattle.serial_team.specs.Running.{put_all, beside, most_below, past_region, LaneRuns, TeamRuns, PhasesRun}
+use Rattle.serial_team.specs.Running.{put_all, beside, past_region, LaneRuns, TeamRuns, PhasesRun}
 
 -- which task stops, at which line, and why
 pub record StopAt : Type 0 where
@@ -37,19 +36,13 @@ pub record LongAt : Type 0 where
   pub path : List Step
   pub number : ℕ
 
--- why, of a stop in the meaning of kernels
-abbrev pub why_of : model.Stop → StopWhy
-why_of model.DivZero = why.DivZero
-why_of model.Index = why.Index
-why_of model.LogFull = why.LogFull
-
 mutual
   -- The task at this path did this work and stopped, or a lane of a region that it forked did, and others go on from these words. It also stops
   -- where too many tasks are below it.
   pub data LaneStops (layout : ElementLayout) : List Step → MemberValue → Work → Pool → StopAt → Type 0 where
-    halts : (path : List Step) (x : MemberValue) (slots : List ℤ) (last : Progress) (w : model.Stop) (line : ℕ)
-        → (m : Made layout (left_of x.stand) x.stand.slots slots x.stand.progress last (Halted w line))
-        → LaneStops layout path x (put_all layout x.stand.progress.words m.added Rest) (record { words = last.words; left = last.left }) (record { path = path; line = line; why = why_of w })
+    halts : (path : List Step) (x : MemberValue) (slots : List ℤ) (last : SerialProgress) (w : StopWhy) (line : ℕ)
+        → (m : RanPart layout (stand_left x.stand) x.stand.slots slots x.stand.progress last (Halted w line))
+        → LaneStops layout path x (put_all layout x.stand.progress.words m.added Rest) (record { words = last.words; left = last.left }) (record { path = path; line = line; why = w })
     in_region : (path : List Step) (x : MemberValue) (y : Stand) (team : TeamTree) (xs : List MemberValue) (p : Pool) (phases : Phases) (at : StopAt)
         → (a : Advances layout x.stand y (event kind.Region team.line 0 team.span ∷ []) (record { team = team; slots = y.slots } ∷ []))
         → length path < 4 → BeginTeam y.at.arrays team y.slots xs → PhasesStop layout path x.forked xs (pool_at y) phases p at
@@ -57,12 +50,12 @@ mutual
     too_many : (path : List Step) (x : MemberValue) (y : Stand) (team : TeamTree) (xs ys : List MemberValue) (p : Pool) (phases : Phases)
         → (a : Advances layout x.stand y (event kind.Region team.line 0 team.span ∷ []) (record { team = team; slots = y.slots } ∷ []))
         → length path < 4 → BeginTeam y.at.arrays team y.slots xs → PhasesRun layout path x.forked xs (pool_at y) phases ys p
-        → most_below < length (past_region path x y ys p).below
-        → LaneStops layout path x (put_all layout x.stand.progress.words a.makes.plain (Fork team.line team.span phases Rest)) p (record { path = path; line = team.line; why = why.Tasks })
+        → task_limit < length (past_region path x y ys p).below
+        → LaneStops layout path x (put_all layout x.stand.progress.words a.makes.plain (Fork team.line team.span phases Rest)) p (record { path = path; line = team.line; why = reason.Tasks })
     onward : (path : List Step) (x : MemberValue) (y : Stand) (team : TeamTree) (xs ys : List MemberValue) (p q : Pool) (phases : Phases) (more : Work) (at : StopAt)
         → (a : Advances layout x.stand y (event kind.Region team.line 0 team.span ∷ []) (record { team = team; slots = y.slots } ∷ []))
         → length path < 4 → BeginTeam y.at.arrays team y.slots xs → PhasesRun layout path x.forked xs (pool_at y) phases ys p
-        → length (past_region path x y ys p).below ≤ most_below → LaneStops layout path (past_region path x y ys p) more q at
+        → length (past_region path x y ys p).below ≤ task_limit → LaneStops layout path (past_region path x y ys p) more q at
         → LaneStops layout path x (put_all layout x.stand.progress.words a.makes.plain (Fork team.line team.span phases more)) q at
 
   -- the lanes of the region of this number went on, one after another; this is the first stop, if any
@@ -90,8 +83,8 @@ bounded layout = record layout { bound = OfRun }
 mutual
   -- The run may make no record more, and the task at this path would put one, whose log has room for it; or a lane of a region that it forked would.
   pub data LaneLong (layout : ElementLayout) : List Step → MemberValue → LongAt → Type 0 where
-    at_record : (path : List Step) (x : MemberValue) (slots : List ℤ) (last : Progress) (line : ℕ)
-        → Made (bounded layout) (left_of x.stand) x.stand.slots slots x.stand.progress last (Halted model.LogFull line) → last.left ≡ 0 → last.count < log_limit
+    at_record : (path : List Step) (x : MemberValue) (slots : List ℤ) (last : SerialProgress) (line : ℕ)
+        → RanPart (bounded layout) (stand_left x.stand) x.stand.slots slots x.stand.progress last (Halted reason.LogFull line) → last.left ≡ 0 → last.count < record_limit
         → LaneLong layout path x (record { path = path; number = last.count + 1 })
     in_lanes : (path : List Step) (x : MemberValue) (y : Stand) (team : TeamTree) (xs : List MemberValue) (long : LongAt)
         → Advances layout x.stand y (event kind.Region team.line 0 team.span ∷ []) (record { team = team; slots = y.slots } ∷ [])
@@ -99,7 +92,7 @@ mutual
     past_lanes : (path : List Step) (x : MemberValue) (y : Stand) (team : TeamTree) (xs ys : List MemberValue) (p : Pool) (phases : Phases) (long : LongAt)
         → Advances layout x.stand y (event kind.Region team.line 0 team.span ∷ []) (record { team = team; slots = y.slots } ∷ [])
         → length path < 4 → BeginTeam y.at.arrays team y.slots xs → PhasesRun layout path x.forked xs (pool_at y) phases ys p
-        → length (past_region path x y ys p).below ≤ most_below → LaneLong layout path (past_region path x y ys p) long → LaneLong layout path x long
+        → length (past_region path x y ys p).below ≤ task_limit → LaneLong layout path (past_region path x y ys p) long → LaneLong layout path x long
 
   -- a lane of the region of this number would, after the lanes before it ran or stopped
   pub data TeamLong (layout : ElementLayout) : List Step → ℕ → List MemberValue → Pool → LongAt → Type 0 where
@@ -144,10 +137,8 @@ is_stopped _ = false
 
 -- what a task's own halt is told as, whose log has so many records
 abbrev pub TellsHalt : List Step → ℕ → Halt → Stop → Type 0
-TellsHalt path count (halt.DivZero line) e = e ≡ stop.Stopped path line why.DivZero
-TellsHalt path count (halt.Index line) e = e ≡ stop.Stopped path line why.Index
-TellsHalt path count (halt.LogFull line) e = e ≡ stop.Stopped path line why.LogFull
-TellsHalt path count halt.Long e = count < log_limit → e ≡ stop.Long path (count + 1)
+TellsHalt path count (halt.Stops why line) e = e ≡ stop.Stopped path line why
+TellsHalt path count halt.Long e = count < record_limit → e ≡ stop.Long path (count + 1)
 TellsHalt path count halt.Refused e = e ≡ stop.Memory
 TellsHalt path count halt.Memory e = e ≡ stop.Memory
 

@@ -11,6 +11,7 @@ mod region;
 mod root;
 mod stop;
 
+pub use kernel_model::StopWhy;
 pub use member::{Member, Stage, TaskLog};
 pub use root::{SerialRun, run_serially};
-pub use stop::{Stop, StopWhy};
+pub use stop::Stop;

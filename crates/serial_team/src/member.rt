@@ -13,7 +13,7 @@ ghost use Rattle.serial_team.specs.declared.stop.Stop.TheVariants as stop;
 
 use crate::stop::Stop;
 use kernel_syntax::{Array, Team};
-use serial_run::{Lane, Locals, Memory, Pause, Place};
+use serial_run::{Locals, Pause, SerialLane, SerialMemory, TaskPlace};
 use std::alloc::Global;
 use sw_base::{LOG_HEADER, Path};
 
@@ -38,7 +38,7 @@ pub enum Stage {
 /// stands still.
 #[derive(Drop)]
 pub struct Member<'k> {
-    pub lane: Lane<'k>,
+    pub lane: SerialLane<'k>,
     pub forked: u32,
     pub below: Vec<TaskLog>,
     pub stage: Stage,
@@ -58,12 +58,12 @@ impl<'k> Member<'k> {
         ensures begins { IfOk result (λ m. BeginsLane arrays.now (team_of team.now) locals.now.slots.items lane (idle_member m)) }
         ensures memory { IfErr result (λ e. e ≡ stop.Memory) }
     {
-        let place = Place::new(arrays, lane, team.span);
+        let place = TaskPlace::new(arrays, lane, team.span);
         let locals = Locals {
             slots: locals.slots.clone()?,
         };
         let log = LOG_HEADER.to_vec(alloc)?;
-        match Lane::start(alloc, place, team, locals, log) {
+        match SerialLane::start(alloc, place, team, locals, log) {
             Ok(lane) => Ok(Member {
                 lane,
                 forked: 0,
@@ -84,7 +84,11 @@ impl<'k> Member<'k> {
     }
 
     // Goes on until the task stands still.
-    pub(crate) fn resume(&mut self, path: &Path, memory: &mut Memory) -> Result<Pause<'k>, Stop>
+    pub(crate) fn resume(
+        &mut self,
+        path: &Path,
+        memory: &mut SerialMemory,
+    ) -> Result<Pause<'k>, Stop>
         ensures pauses { (layout : ElementLayout) → TellsWords self.old.lane.place.arrays layout → IfOk result (λ to. PausesAt layout (stand self.old.lane memory.old) (stand self.new.lane memory.new) to) }
         ensures stops { (layout : ElementLayout) → TellsWords self.old.lane.place.arrays layout
             → IfErr result (λ e. IfStopped (LaneStopped layout path.now (seen memory.old self.old) (pool memory.new)) (LaneLong layout path.now (seen memory.old self.old)) e) }

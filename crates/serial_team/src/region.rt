@@ -5,18 +5,17 @@ ghost use Rattle.kernel_syntax.specs.Layout.{ArePlaced, elements};
 ghost use Rattle.kernel_syntax.specs.Program.{team_of};
 ghost use Rattle.serial_run.specs.Placing.{ElementLayout, TellsWords};
 ghost use Rattle.serial_team.specs.Members.{all_idle, pool, seen, whole_log};
-ghost use Rattle.serial_team.specs.Running.{GoesTo, HaveArrays, RanBelow, RanPhase, RanPhases, RanRegion, RanTo};
+ghost use Rattle.serial_team.specs.Running.{GoesTo, HaveArrays, RanBelow, DidPhase, RanPhases, DidRegion, RanTo};
 ghost use Rattle.serial_team.specs.Stopping.{StopsPast, IfStopped, LaneLong, LaneStopped, LongBelow, PhasesLong, PhasesStopped, RegionLong, RegionStopped, StopsBelow, TeamLong, TeamWent, told_first};
 
 use crate::member::{Member, Stage, TaskLog, all_at, begin_team, hand_on_all};
-use crate::stop::{Stop, StopWhy};
+use crate::stop::Stop;
+use kernel_model::StopWhy;
 use kernel_syntax::{Array, Team};
-use serial_run::{Locals, Memory, Pause};
+use log_format::TASK_LIMIT;
+use serial_run::{Locals, Pause, SerialMemory};
 use std::alloc::Global;
 use sw_base::Path;
-
-/// The most tasks below one.
-const MOST_BELOW: usize = 65535;
 
 // Runs the region that a task forked.
 #[cycle(region)]
@@ -27,7 +26,7 @@ fn fork<'k>(
     path: &Path,
     team: &'k Team,
     member: &mut Member<'k>,
-    memory: &mut Memory,
+    memory: &mut SerialMemory,
 ) -> Result<(), Stop>
     requires placed { ArePlaced arrays.now (elements arrays.now) }
     requires deep { length path.now + depth ≤ 4 }
@@ -53,7 +52,7 @@ fn fork<'k>(
         memory,
         &mut member.below,
     )?;
-    if member.below.len() > MOST_BELOW {
+    if member.below.len() > TASK_LIMIT {
         return Err(Stop::Stopped {
             path: path.copy(),
             line: team.line,
@@ -72,7 +71,7 @@ fn advance<'k>(
     arrays: &'k [Array],
     path: &Path,
     member: &mut Member<'k>,
-    memory: &mut Memory,
+    memory: &mut SerialMemory,
 ) -> Result<Option<Stage>, Stop>
     requires placed { ArePlaced arrays.now (elements arrays.now) }
     requires deep { length path.now + depth ≤ 4 }
@@ -101,7 +100,7 @@ pub(crate) fn go<'k>(
     arrays: &'k [Array],
     path: &Path,
     member: &mut Member<'k>,
-    memory: &mut Memory,
+    memory: &mut SerialMemory,
 ) -> Result<(), Stop>
     requires placed { ArePlaced arrays.now (elements arrays.now) }
     requires deep { length path.now + depth ≤ 4 }
@@ -138,12 +137,12 @@ fn run_phase<'k>(
     at: &Path,
     number: u32,
     members: &mut [Member<'k>],
-    memory: &mut Memory,
+    memory: &mut SerialMemory,
 ) -> Result<(), Stop>
     requires placed { ArePlaced arrays.now (elements arrays.now) }
     requires deep { length at.now + depth < 4 }
     ensures ran { (layout : ElementLayout) → TellsWords arrays.now layout → HaveArrays arrays.now (all_idle members.old)
-        → IfOk result (λ _. RanPhase layout at.now number (all_idle members.old) (pool memory.old) (all_idle members.new) (pool memory.new)) }
+        → IfOk result (λ _. DidPhase layout at.now number (all_idle members.old) (pool memory.old) (all_idle members.new) (pool memory.new)) }
     ensures stops { (layout : ElementLayout) → TellsWords arrays.now layout → HaveArrays arrays.now (all_idle members.old)
         → IfErr result (λ e. IfStopped (λ first. TeamWent layout at.now number (all_idle members.old) (pool memory.old) (pool memory.new) (Some first)) (TeamLong layout at.now number (all_idle members.old) (pool memory.old)) e) }
 {
@@ -169,7 +168,7 @@ fn run_phases<'k>(
     at: &Path,
     number: u32,
     members: &mut [Member<'k>],
-    memory: &mut Memory,
+    memory: &mut SerialMemory,
 ) -> Result<(), Stop>
     requires placed { ArePlaced arrays.now (elements arrays.now) }
     requires deep { length at.now + depth < 4 }
@@ -200,13 +199,13 @@ fn region<'k>(
     number: u32,
     team: &'k Team,
     locals: &Locals,
-    memory: &mut Memory,
+    memory: &mut SerialMemory,
     done: &mut Vec<TaskLog>,
 ) -> Result<(), Stop>
     requires placed { ArePlaced arrays.now (elements arrays.now) }
     requires deep { length at.now + depth < 4 }
     ensures ran { (layout : ElementLayout) → TellsWords arrays.now layout
-        → IfOk result (λ _. RanRegion layout arrays.now (team_of team.now) locals.now.slots.items at.now number (pool memory.old) (pool memory.new)
+        → IfOk result (λ _. DidRegion layout arrays.now (team_of team.now) locals.now.slots.items at.now number (pool memory.old) (pool memory.new)
         (map whole_log done.old.items) (map whole_log done.new.items)) }
     ensures stops { (layout : ElementLayout) → TellsWords arrays.now layout
         → IfErr result (λ e. IfStopped (RegionStopped layout arrays.now (team_of team.now) locals.now.slots.items at.now number (pool memory.old) (pool memory.new)) (RegionLong layout arrays.now (team_of team.now) locals.now.slots.items at.now number (pool memory.old)) e) }

@@ -5,14 +5,14 @@ ghost use Rattle.kernel_syntax.specs.Layout.{IsWithinLimits, elements};
 ghost use Rattle.kernel_syntax.specs.Program.{program_of};
 ghost use Rattle.serial_run.specs.Placing.{ElementLayout, TellsWords};
 ghost use Rattle.serial_team.specs.Members.{whole_log};
-ghost use Rattle.serial_team.specs.Running.{RanRoot};
+ghost use Rattle.serial_team.specs.Running.{DidRoot};
 ghost use Rattle.serial_team.specs.Stopping.{IfStopped, RootLong, RootStopped};
 
 use crate::member::{Member, Stage, TaskLog, is_at};
 use crate::region::go;
 use crate::stop::Stop;
 use kernel_syntax::{Array, Kernel};
-use serial_run::{Locals, Memory};
+use serial_run::{Locals, SerialMemory};
 use std::alloc::{AllocError, Global};
 use sw_base::Path;
 
@@ -41,13 +41,13 @@ fn locals(alloc: Global, slots: u32) -> Result<Locals, AllocError>
 }
 
 // All words 0, and room for so many records.
-fn memory(alloc: Global, count: usize, left: u32) -> Result<Memory, AllocError>
+fn memory(alloc: Global, count: usize, left: u32) -> Result<SerialMemory, AllocError>
     ensures words { IfOk result (λ memory. memory.words.items ≡ replicate count 0) }
     ensures left { IfOk result (λ memory. memory.left ≡ left) }
 {
     let mut words = Vec::new(alloc);
     words.resize(count, 0u64)?;
-    Ok(Memory { words, left })
+    Ok(SerialMemory { words, left })
 }
 
 /// Runs a kernel serially, with room for so many records in all.
@@ -55,7 +55,7 @@ pub fn run_serially(alloc: Global, kernel: &Kernel, left: u32) -> Result<SerialR
     requires bounded { IsBounded (program_of kernel.now) }
     requires alone { (program_of kernel.now).main.span ≡ 1 }
     ensures ran { (layout : ElementLayout) → TellsWords kernel.now.arrays layout
-        → IfOk result (λ r. RanRoot layout (program_of kernel.now) left (map whole_log r.logs.items) r.words.items) }
+        → IfOk result (λ r. DidRoot layout (program_of kernel.now) left (map whole_log r.logs.items) r.words.items) }
     ensures stopped { (layout : ElementLayout) → TellsWords kernel.now.arrays layout → IfErr result (λ e. IfStopped (RootStopped layout (program_of kernel.now) left) (RootLong layout (program_of kernel.now) left) e) }
 {
     let arrays = kernel.arrays.as_slice();

@@ -3,22 +3,10 @@ ghost use Rattle.std.specs.Prelude.{◌≡◌};
 ghost use Rattle.serial_team.specs.declared.stop.Stop.TheVariants as stop;
 ghost use Rattle.serial_team.specs.Stopping.{TellsHalt, is_stopped};
 
+use kernel_model::StopWhy;
 use serial_run::Halt;
 use std::alloc::{AllocError, AllocFailed};
 use sw_base::Path;
-
-/// Why a task stops.
-#[derive(Clone, Copy, Debug)]
-pub enum StopWhy {
-    /// A divisor is 0.
-    DivZero,
-    /// An index lies outside its array.
-    Index,
-    /// The log has room for no more records.
-    LogFull,
-    /// More than 65,535 tasks are below the task.
-    Tasks,
-}
 
 /// Why a serial run doesn't go on.
 #[derive(Drop)]
@@ -39,21 +27,7 @@ impl Stop {
     {
         let path = path.copy();
         match halt {
-            Halt::DivZero { line } => Stop::Stopped {
-                path,
-                line,
-                why: StopWhy::DivZero,
-            },
-            Halt::Index { line } => Stop::Stopped {
-                path,
-                line,
-                why: StopWhy::Index,
-            },
-            Halt::LogFull { line } => Stop::Stopped {
-                path,
-                line,
-                why: StopWhy::LogFull,
-            },
+            Halt::Stops { why, line } => Stop::Stopped { path, line, why },
             Halt::Long => Stop::Long {
                 path,
                 number: count.saturating_add(1),

@@ -4,7 +4,7 @@ use lib.Pointwise.{pointwise, pointwise_decides}
 use Rattle.std.proofs.lemmas.Bool.Decides.{eqb_tells}
 use Rattle.race_model.proofs.Labels.{label_before_first, label_before_rest}
 use Rattle.race_model.specs.Label.{Triple, IsTripleBefore, IsLabelBefore}
-use Rattle.span_label.specs.Levels.{HasLane, own_level}
+use Rattle.span_label.specs.Levels.{HasSpan, own_level}
 
 -- what is before another is so after one more triple
 pub one_more_same : (x y : Triple) (xs ys : List Triple) → x ≡ y → IsLabelBefore xs ys → IsLabelBefore (x ∷ xs) (y ∷ ys)
@@ -75,8 +75,8 @@ nothing_before y [] vs ys none vs_is = subst (λ (zs : List Triple). IsLabelBefo
 nothing_before y (u ∷ us) vs ys none vs_is = absurd (omega arith)
 
 -- what holds of all of a list holds of all of its rest
-pub all_rest : (x : Triple) (xs us : List Triple) → us ≡ x ∷ xs → All HasLane us → All HasLane xs
-all_rest x xs us as_is all = λ k d h. (subst (λ (zs : List Triple). All HasLane zs) as_is all) (suc k) d (omega arith)
+pub all_rest : (x : Triple) (xs us : List Triple) → us ≡ x ∷ xs → All HasSpan us → All HasSpan xs
+all_rest x xs us as_is all = λ k d h. (subst (λ (zs : List Triple). All HasSpan zs) as_is all) (suc k) d (omega arith)
 
 -- the last triple of a label and what is above it
 pub last_is : (xs ys : List Triple) (x y : Triple) → xs ++ x ∷ [] ≡ ys ++ y ∷ [] → (xs ≡ ys) × (x ≡ y)

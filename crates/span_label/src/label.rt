@@ -1,7 +1,7 @@
 ghost use Rattle.std.specs.Prelude.{◌≡◌, ◌+◌, ◌^◌, ◌-◌, ◌<◌, ◌↔◌, List, [], ◌∷◌, ◌++◌, length, All, IsTrue};
 ghost use Rattle.std.specs.Option.{ForSome};
 ghost use Rattle.race_model.specs.Label.{Triple as ModelTriple, IsLabelBefore, IsConcurrent};
-ghost use Rattle.span_label.specs.Levels.{HasLane, HasLevels, own_level};
+ghost use Rattle.span_label.specs.Levels.{HasSpan, HasLevels, own_level};
 
 use crate::triple::{Triple, is_before};
 use arrayvec::ArrayVec;
@@ -129,7 +129,7 @@ impl Label {
 }
 
 fn precedes(x: &[Triple], y: &[Triple]) -> bool
-    requires { All HasLane x.now }
+    requires { All HasSpan x.now }
     ensures { IsTrue result ↔ IsLabelBefore x.now y.now }
 {
     let Some((b, ys)) = y.split_first() else {

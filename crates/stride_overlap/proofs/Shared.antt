@@ -1,7 +1,7 @@
 -- Two runs share a byte where they have places that meet.
 use Rattle.std.proofs.Common.{◌≡◌, ℕ, ◌+◌, ◌<◌, ◌≤◌, inl, inr, arith}
 use Rattle.std.proofs.lemmas.Bool.{cases_lt}
-use Rattle.log_format.specs.Table.{IsAccessSize}
+use Rattle.log_format.specs.Fitting.{IsWidth}
 use Rattle.stride_summary.specs.declared.run.Run.{Run}
 use Rattle.stride_summary.specs.Run.{SharesRunByte, address_at}
 use Rattle.stride_overlap.specs.Meeting.{Meets}
@@ -19,7 +19,7 @@ pub record Common (a b : Run) (low high : ℕ) : Type 0 where
   pub in_second : j < b.count
   pub meets : Meets a.stride b.stride low high i j
 
-pub has_bytes : (n : ℕ) → IsAccessSize n → 1 ≤ n
+pub has_bytes : (n : ℕ) → IsWidth n → 1 ≤ n
 has_bytes n size = elim size [ inl e ↦ omega arith | inr s ↦ elim s [ inl e ↦ omega arith | inr t ↦ elim t [ inl e ↦ omega arith | inr e ↦ omega arith ] ] ]
 
 pub SharesRunByte-common : (a b : Run) (low high : ℕ) → IsBehind a b low high → Common a b low high → SharesRunByte a b

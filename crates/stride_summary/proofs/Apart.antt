@@ -1,5 +1,5 @@
 -- Runs of which no two of one key interleave, in any order and then in that of their first addresses.
-use Rattle.std.proofs.Common.{◌≡◌, ◌⊎◌, ℕ, ◌+◌, ◌-◌, ◌<◌, List, [], ◌∷◌, ◌++◌, length, get_or, set, Contains, inl, inr, refl, sym, ◌∙◌, ap, subst, arith, length-append, get_or-set_same, get_or-set_other}
+use Rattle.std.proofs.Common.{◌≡◌, ℕ, ◌+◌, ◌-◌, ◌<◌, List, [], ◌∷◌, ◌++◌, length, get_or, set, Contains, inl, inr, refl, sym, ◌∙◌, ap, subst, arith, length-append, get_or-set_same, get_or-set_other}
 use Rattle.std.specs.List.{swap}
 use Rattle.std.specs.List.Sorted.{IsNonDecreasingBy, IsPermutation}
 use Rattle.std.proofs.Math.ListN.{length-set}
@@ -7,15 +7,7 @@ use Rattle.std.proofs.lemmas.Bool.{cases_eq, cases_lt}
 use Rattle.std.proofs.lemmas.List.{get_or_append_left, get_or-append_right, get_or_default}
 use Rattle.std.proofs.lemmas.List.Sorted.{IsPermutation-keeps}
 use Rattle.stride_summary.specs.declared.run.Run.{Run}
-use Rattle.stride_summary.specs.Run.{AreApart, last_address, run_key}
-
--- one ends before the other begins
-abbrev pub Apart : Run → Run → Type 0
-Apart one other = run_key one ≡ run_key other → (last_address one < other.base) ⊎ (last_address other < one.base)
-
--- any two runs at different places are apart
-abbrev pub EachApart : List Run → Type 0
-EachApart runs = (i j : ℕ) (d : Run) → (i ≡ j → ⊥) → i < length runs → j < length runs → Apart (get_or runs i d) (get_or runs j d)
+use Rattle.stride_summary.specs.Run.{Apart, AreApart, EachApart}
 
 turned : (one other : Run) → Apart one other → Apart other one
 turned one other apart same = elim (apart (sym same)) [ inl before ↦ inr before | inr after ↦ inl after ]

@@ -4,7 +4,7 @@ use Rattle.std.proofs.lemmas.Bool.{cases_lt}
 use Rattle.std.proofs.lemmas.List.{get_or_append_left, get_or-append-add, get_or_default, get_or-take, length-take-le, take-append-drop}
 use Rattle.std.proofs.lemmas.List.Elements.{All-drop, Contains-append_cases, Contains-append_left, Contains-append_right, Contains-get_or, Contains-push, Contains-push_cases}
 use Rattle.std.proofs.lemmas.List.Quantifiers.{all_pairs_push}
-use Rattle.log_format.specs.Table.{IsAccessSize}
+use Rattle.log_format.specs.Fitting.{IsWidth}
 use Rattle.stride_summary.specs.declared.key.Key.{Key}
 use Rattle.stride_summary.specs.declared.run.Run.{Run}
 use Rattle.stride_summary.specs.declared.single.Single.{Single}
@@ -176,7 +176,7 @@ module _ (singles rest later : List Single) (old new next : List Run) (run : Run
   joining_step = record {
     done = done ++ now;
     split = joining.split ∙ ap (λ ss. done ++ ss) (sym (take-append-drop run.count rest)) ∙ sym (append_assoc done now (drop run.count rest)) ∙ ap (λ ss. (done ++ now) ++ ss) (sym dropped);
-    sized = subst (λ (ss : List Single). AreSized ss) (sym dropped) (All-drop (λ (s : Single). IsAccessSize s.size) run.count rest joining.sized);
+    sized = subst (λ (ss : List Single). AreSized ss) (sym dropped) (All-drop (λ (s : Single). IsWidth s.size) run.count rest joining.sized);
     ends = subst (λ (ss : List Single). EndByTheLast ss) (sym dropped) (All-drop (λ (s : Single). s.addr + s.size ≤ 2 ^ 48) run.count rest joining.ends);
     so_far = record {
       cuts = cuts ++ run ∷ [];

@@ -9,4 +9,5 @@ mod Ordered
 mod Alone
 mod Joined
 pub mod Finishing
+mod Emptying
 mod Placing

@@ -1,6 +1,6 @@
 -- Accesses under no mutex.
 use Rattle.std.specs.Prelude.{◌≡◌, ℕ, ◌+◌, ◌^◌, ◌<◌, ◌≤◌, List, [], All, AllPairs, length, slice_index_or}
-use Rattle.log_format.specs.Table.{IsAccessSize}
+use Rattle.log_format.specs.Fitting.{IsWidth}
 use Rattle.stride_summary.specs.Sizes.{access_size_prop}
 use Rattle.stride_summary.specs.declared.key.Key.{Key}
 use Rattle.stride_summary.specs.declared.run.Run.{Run}
@@ -12,7 +12,7 @@ single_key single = record { write = single.write; atomic = single.atomic; size 
 
 -- each has a size that an access may have
 abbrev pub AreSized : List Single → Type 0
-AreSized singles = All (λ single. IsAccessSize single.size) singles
+AreSized singles = All (λ single. IsWidth single.size) singles
 
 -- it has one proof
 pub sized_prop : (singles : List Single) → IsProp (AreSized singles)

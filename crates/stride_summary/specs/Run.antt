@@ -1,5 +1,5 @@
 -- A strided run: its addresses, its bytes and its key.
-use Rattle.std.specs.Prelude.{◌≡◌, ℕ, ◌+◌, ◌-◌, ◌*◌, ◌<◌, ◌≤◌, List, Contains, AllPairs}
+use Rattle.std.specs.Prelude.{◌≡◌, ◌⊎◌, ℕ, ◌+◌, ◌-◌, ◌*◌, ◌<◌, ◌≤◌, List, Contains, AllPairs, length, slice_index_or}
 use Rattle.stride_summary.specs.declared.access.Access.{Access}
 use Rattle.stride_summary.specs.declared.key.Key.{Key}
 use Rattle.stride_summary.specs.declared.run.Run.{Run}
@@ -47,6 +47,14 @@ pub record HasPair (runs : List Run) (key : Key) (address : ℕ) : Type 0 where
 
 abbrev pub last_address : Run → ℕ
 last_address run = address_at run (run.count - 1)
+
+-- of two runs of one key one ends before the other begins
+abbrev pub Apart : Run → Run → Type 0
+Apart one other = run_key one ≡ run_key other → (last_address one < other.base) ⊎ (last_address other < one.base)
+
+-- any two runs at different places are apart
+abbrev pub EachApart : List Run → Type 0
+EachApart runs = (i j : ℕ) (d : Run) → (i ≡ j → ⊥) → i < length runs → j < length runs → Apart (slice_index_or runs i d) (slice_index_or runs j d)
 
 -- of two runs of one key the later one begins behind the last address of the other, so no address is in both
 abbrev pub AreApart : List Run → Type 0

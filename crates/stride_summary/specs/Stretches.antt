@@ -1,19 +1,31 @@
 -- The addresses of several keys.
-use Rattle.std.specs.Prelude.{◌≡◌, ◌⊎◌, ◌↔◌, ℕ, ◌+◌, ◌/◌, ◌<◌, ◌≤◌, List, Contains, AllPairs, vec_len, vec_capacity, slice_index_or, length}
+use Rattle.std.specs.Prelude.{◌≡◌, ◌⊎◌, ◌↔◌, ℕ, ◌+◌, ◌/◌, ◌<◌, ◌≤◌, List, [], All, Contains, AllPairs, vec_len, vec_capacity, slice_index_or, length}
 use Rattle.stride_summary.specs.declared.key.Key.{Key}
+use Rattle.stride_summary.specs.declared.run.Run.{Run}
 use Rattle.stride_summary.specs.declared.stretch.Stretch.{Stretch}
+use Rattle.stride_summary.specs.Run.{EachApart, HasPair}
 
 -- the most runs that the addresses of a key make before there has to be more room
 abbrev pub needed_of : Stretch → ℕ
 needed_of stretch = (stretch.limit + 1) / 2
 
 -- there is room for an address
-abbrev pub HasRoom : Stretch → Type 0
-HasRoom stretch = vec_len stretch.addresses < stretch.limit
+abbrev pub FitsAddress : Stretch → Type 0
+FitsAddress stretch = vec_len stretch.addresses < stretch.limit
 
 -- with this limit there is room for an address
 abbrev pub MayHave : Stretch → ℕ → Type 0
 MayHave stretch limit = (vec_len stretch.addresses < limit) × (limit ≤ vec_capacity stretch.addresses)
+
+-- no address is there, and no room is promised for one
+abbrev pub IsEmptied : Stretch → Type 0
+IsEmptied stretch = (stretch.addresses.items ≡ []) × (stretch.limit ≡ 0)
+
+-- the keys are the same, and no address is left
+pub record AreEmptied (old new : List Stretch) : Type 0 where
+  pub count : length new ≡ length old
+  pub keyed : (place : ℕ) (d : Stretch) → (slice_index_or new place d).key ≡ (slice_index_or old place d).key
+  pub emptied : All IsEmptied new
 
 abbrev pub KeysDiffer : List Stretch → Type 0
 KeysDiffer stretches = AllPairs (λ one other. one.key ≡ other.key → ⊥) stretches
@@ -28,6 +40,11 @@ pub record Holds (stretches : List Stretch) (key : Key) (address : ℕ) : Type 0
   pub listed : Contains stretches stretch
   pub keyed : stretch.key ≡ key
   pub held : Contains stretch.addresses.items address
+
+-- the runs are those of the addresses, in any order
+pub record HaveRuns (stretches : List Stretch) (runs : List Run) : Type 0 where
+  pub pairs : (key : Key) (address : ℕ) → HasPair runs key address ↔ Holds stretches key address
+  pub apart : EachApart runs
 
 -- the same pairs of key and address
 abbrev pub HoldsSame : List Stretch → List Stretch → Type 0

@@ -1,5 +1,5 @@
 ghost use Rattle.std.specs.Prelude.{◌≡◌, ◌+◌, ◌^◌, ◌≤◌};
-ghost use Rattle.log_format.specs.Table.{IsAccessSize};
+ghost use Rattle.log_format.specs.Fitting.{IsWidth};
 ghost use Rattle.stride_summary.specs.Sizes.{access_size_prop};
 
 use mutex_set::Held;
@@ -21,7 +21,7 @@ pub struct Access<'h> {
     pub addr: u64,
     /// The mutexes that the task held.
     pub held: &'h Held,
-    ghost sized: { IsAccessSize size } by { access_size_prop size },
+    ghost sized: { IsWidth size } by { access_size_prop size },
     ghost bounded: { addr + size ≤ 2 ^ 48 },
 }
 

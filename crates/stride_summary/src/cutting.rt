@@ -1,6 +1,6 @@
 ghost use Rattle.std.specs.Prelude.{◌≡◌, ℕ, ◌+◌, ◌-◌, ◌*◌, ◌^◌, ◌/◌, ◌<◌, ◌≤◌, length, slice_index, take, vec_len, vec_capacity};
 ghost use Rattle.std.specs.List.Sorted.{IsStrictlyIncreasing};
-ghost use Rattle.log_format.specs.Table.{IsAccessSize};
+ghost use Rattle.log_format.specs.Fitting.{IsWidth};
 ghost use Rattle.stride_summary.specs.Run.{run_key};
 ghost use Rattle.stride_summary.specs.Spread.{AddsCuts, EndsInTime, addresses_of};
 
@@ -10,7 +10,7 @@ use crate::run::Run;
 /// Adds the runs of the addresses, each of as many as lie at equal distances. There has to be room for them.
 pub fn push_runs(key: &Key, addresses: &[u64], runs: &mut Vec<Run>)
     requires ascending { IsStrictlyIncreasing addresses.now }
-    requires sized { IsAccessSize key.now.size }
+    requires sized { IsWidth key.now.size }
     requires ends { EndsInTime key.now.size addresses.now }
     requires room { vec_len runs.old + (length addresses.now + 1) / 2 ≤ vec_capacity runs.old }
     ensures cuts { AddsCuts key.now addresses.now runs.old.items runs.new.items }
@@ -30,7 +30,7 @@ fn first_run(key: &Key, addresses: &[u64], count: usize) -> Run
     requires some { (1 ≤ count) × (count < 2 ^ 32) × (count ≤ length addresses.now) }
     requires even { (place : ℕ) → place + 1 < count → slice_index addresses.now (place + 1) - slice_index addresses.now place ≡ slice_index addresses.now 1 - slice_index addresses.now 0 }
     requires ascending { IsStrictlyIncreasing addresses.now }
-    requires sized { IsAccessSize key.now.size }
+    requires sized { IsWidth key.now.size }
     requires ends { EndsInTime key.now.size addresses.now }
     ensures key { run_key result ≡ key.now }
     ensures addresses { addresses_of result ≡ take count addresses.now }

@@ -1,5 +1,5 @@
 ghost use Rattle.std.specs.Prelude.{◌≡◌, ◌↔◌, ℕ, ◌+◌, ◌-◌, ◌*◌, ◌^◌, ◌<◌, ◌≤◌};
-ghost use Rattle.log_format.specs.Table.{IsAccessSize};
+ghost use Rattle.log_format.specs.Fitting.{IsWidth};
 ghost use Rattle.stride_summary.specs.Sizes.{access_size_prop};
 
 use mutex_set::Held;
@@ -25,7 +25,7 @@ pub struct Run {
     pub held: Held,
     ghost not_empty: { 1 ≤ count },
     ghost single: { (stride ≡ 0) ↔ (count ≡ 1) },
-    ghost sized: { IsAccessSize size } by { access_size_prop size },
+    ghost sized: { IsWidth size } by { access_size_prop size },
     ghost bounded: { base + (count - 1) * stride + (size - 1) < 2 ^ 48 },
 }
 

@@ -95,12 +95,16 @@ impl Singles {
         });
     }
 
-    /// Adds the runs of the accesses.
-    pub fn push_into(mut self, runs: &mut Vec<Run>)
-        requires { vec_len runs.old + vec_len self.list ≤ vec_capacity runs.old }
-        ensures { AddsSingles self.list.items runs.old.items runs.new.items }
+    /// Adds the runs of the accesses, of which none is left. Their room stays.
+    pub fn empty_into(&mut self, runs: &mut Vec<Run>)
+        requires { vec_len runs.old + vec_len self.old.list ≤ vec_capacity runs.old }
+        ensures added { AddsSingles self.old.list.items runs.old.items runs.new.items }
+        ensures none { self.new.list.items ≡ [] }
+        ensures limit { self.new.limit ≡ 0 }
     {
         self.settle();
         push_joined(&self.list, runs);
+        self.list.clear();
+        self.limit = 0;
     }
 }

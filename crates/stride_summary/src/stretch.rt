@@ -1,7 +1,7 @@
 ghost use Rattle.std.specs.Prelude.{[], ◌≡◌, ◌↔◌, ◌⊎◌, ℕ, ◌+◌, ◌-◌, ◌*◌, ◌/◌, ◌^◌, ◌<◌, ◌≤◌, Contains, IfOk, IsTrue, vec_len, vec_capacity};
 ghost use Rattle.std.specs.List.Sorted.{IsPermutation, IsSorted, IsStrictlyIncreasing};
 ghost use Rattle.std.specs.Ordering.{nat_cmp};
-ghost use Rattle.log_format.specs.Table.{IsAccessSize};
+ghost use Rattle.log_format.specs.Fitting.{IsWidth};
 ghost use Rattle.stride_summary.specs.Sizes.{access_size_prop};
 ghost use Rattle.stride_summary.specs.Spread.{AddsStretch, EndsInTime};
 
@@ -21,7 +21,7 @@ pub struct Stretch {
     pub addresses: Vec<u64>,
     /// How many addresses there may be before there has to be more room.
     pub limit: usize,
-    ghost sized: { IsAccessSize key.size } by { access_size_prop key.size },
+    ghost sized: { IsWidth key.size } by { access_size_prop key.size },
     ghost ends: { EndsInTime key.size addresses.items },
     ghost within: { vec_len addresses ≤ limit },
     ghost room: { limit ≤ vec_capacity addresses },
@@ -42,7 +42,7 @@ fn sort(numbers: &mut Vec<u64>)
 impl Stretch {
     /// No address so far.
     pub fn new(alloc: Global, key: Key) -> Stretch
-        requires { IsAccessSize key.size }
+        requires { IsWidth key.size }
         ensures key { result.key ≡ key }
         ensures none { result.addresses.items ≡ [] }
         ensures empty { result.limit ≡ 0 }
@@ -95,7 +95,8 @@ impl Stretch {
     {
         self.settle_if_many();
         let count = self.addresses.len();
-        let limit = self.limit.max(count + count.max(1));
+        let least = self.limit.max(count + count.max(1));
+        let limit = least.max(self.addresses.capacity());
         self.addresses.reserve_exact(limit - count)?;
         Ok(limit)
     }
@@ -120,14 +121,19 @@ impl Stretch {
         }
     }
 
-    /// Adds the runs of the addresses.
-    pub fn push_into(mut self, runs: &mut Vec<Run>)
-        requires { vec_len runs.old + (vec_len self.addresses + 1) / 2 ≤ vec_capacity runs.old }
-        ensures cuts { AddsStretch self.key self.addresses.items runs.old.items runs.new.items }
-        ensures room { vec_len runs.new ≤ vec_len runs.old + (vec_len self.addresses + 1) / 2 }
+    /// Adds the runs of the addresses, of which none is left. Their room stays.
+    pub fn empty_into(&mut self, runs: &mut Vec<Run>)
+        requires { vec_len runs.old + (vec_len self.old.addresses + 1) / 2 ≤ vec_capacity runs.old }
+        ensures cuts { AddsStretch self.old.key self.old.addresses.items runs.old.items runs.new.items }
+        ensures room { vec_len runs.new ≤ vec_len runs.old + (vec_len self.old.addresses + 1) / 2 }
         ensures capacity { vec_capacity runs.old ≤ vec_capacity runs.new }
+        ensures key { self.new.key ≡ self.old.key }
+        ensures none { self.new.addresses.items ≡ [] }
+        ensures limit { self.new.limit ≡ 0 }
     {
         self.settle();
         push_runs(&self.key, &self.addresses, runs);
+        self.addresses.clear();
+        self.limit = 0;
     }
 }

@@ -5,7 +5,7 @@ ghost use Rattle.stride_summary.specs.Run.{AreApart, HasPair, access_key};
 ghost use Rattle.stride_summary.specs.Places.{TellsPlaces, place_under};
 ghost use Rattle.stride_summary.specs.Singles.{AreOthers, HoldsSingle, MayStandAlone};
 ghost use Rattle.stride_summary.specs.declared.single.Single.{Single};
-ghost use Rattle.stride_summary.specs.Stretches.{HasRoom, Holds, HoldsOneMore, HoldsSame, IsPlaceOf, KeysDiffer, MayHave, needed_of};
+ghost use Rattle.stride_summary.specs.Stretches.{AreEmptied, FitsAddress, HaveRuns, Holds, HoldsOneMore, HoldsSame, IsPlaceOf, KeysDiffer, MayHave, needed_of};
 
 use crate::access::Access;
 use crate::key::Key;
@@ -15,10 +15,14 @@ use crate::singles::Singles;
 use crate::stretch::Stretch;
 use std::alloc::Global;
 use std::collections::BTreeMap;
+use std::mem;
 use sw_base::Memory;
 
 /// How many keys have addresses of their own before accesses of further keys under no mutex stand alone. Kernels hardly have as many.
 const KEYS: usize = 16_384;
+
+/// Where there are so many times as many keys as runs, it isn't worth going over them for the next interval.
+const MANY: usize = 8;
 
 /// The accesses of a barrier interval: the addresses of each key, or where there are very many keys the accesses of most one by
 /// one. It grows with the number of different addresses of a key, and not with the number of accesses.
@@ -53,6 +57,35 @@ fn half(number: usize) -> usize
     ensures { result ≡ (number + 1) / 2 }
 {
     number - number / 2
+}
+
+// Adds the runs of all stretches, of which only the keys and their room stay.
+fn empty_all(stretches: &mut Vec<Stretch>, runs: &mut Vec<Run>)
+    requires none { vec_len runs.old ≡ 0 }
+    requires room { sum_by needed_of stretches.old.items ≤ vec_capacity runs.old }
+    requires differ { KeysDiffer stretches.old.items }
+    ensures done { HaveRuns stretches.old.items runs.new.items }
+    ensures emptied { AreEmptied stretches.old.items stretches.new.items }
+    ensures room { vec_len runs.new ≤ sum_by needed_of stretches.old.items }
+    ensures capacity { vec_capacity runs.old ≤ vec_capacity runs.new }
+{
+    for stretch in stretches.iter_mut() {
+        stretch.empty_into(runs);
+    }
+}
+
+// The runs, in a vector of their own where they leave most of their room free, which then stays.
+fn hand_out(alloc: Global, runs: &mut Vec<Run>) -> Vec<Run>
+    ensures same { result.items ≡ runs.old.items }
+    ensures none { vec_len runs.new ≡ 0 }
+{
+    if runs.len() < runs.capacity() / 2 {
+        if let Ok(mut own) = Vec::with_capacity(alloc, runs.len()) {
+            own.append(runs).unwrap();
+            return own;
+        }
+    }
+    mem::replace(runs, Vec::new(alloc))
 }
 
 // Whether this is the place of the access's key.
@@ -102,25 +135,48 @@ impl Summary {
         ensures apart { AreApart result.items }
         ensures ascends { IsNonDecreasingBy (λ run. run.base) result.items }
     {
-        let Summary {
-            mut stretches,
-            places: _,
-            last: _,
-            followers: _,
-            most: _,
-            singles,
-            room: _,
-            mut runs,
-            alloc: _,
-        } = self;
-        'keys: while let Some(stretch) = stretches.pop() {
-            stretch.push_into(&mut runs);
-        }
-        // The last key was the first to leave. Where keys came by their addresses, all runs are in order now.
-        runs.reverse();
-        singles.push_into(&mut runs);
-        runs.sort_unstable_by_key(|run| run.low());
+        let mut summary = self;
+        summary.take_runs()
+    }
+
+    /// The same runs. No access is left, but the keys and their room may be, for the accesses of the next interval.
+    pub fn take_runs(&mut self) -> Vec<Run>
+        ensures pairs { (key : Key) (address : ℕ) → HasPair result.items key address ↔ IsSummed self.old key address }
+        ensures apart { AreApart result.items }
+        ensures ascends { IsNonDecreasingBy (λ run. run.base) result.items }
+        ensures emptied { (key : Key) (address : ℕ) → IsSummed self.new key address → ⊥ }
+    {
+        empty_all(&mut self.stretches, &mut self.runs);
+        self.singles.empty_into(&mut self.runs);
+        self.room = 0;
+        self.runs.sort_unstable_by_key(|run| run.low());
+        let runs = hand_out(self.alloc, &mut self.runs);
+        self.forget_unless_used(runs.len());
         runs
+    }
+
+    // Forgets the keys if there are many more than so many runs. No access stands alone.
+    fn forget_unless_used(&mut self, runs: usize)
+        requires { self.old.singles.list.items ≡ [] }
+        ensures stretches { (key : Key) (address : ℕ) → Holds self.new.stretches.items key address → Holds self.old.stretches.items key address }
+        ensures singles { self.new.singles ≡ self.old.singles }
+    {
+        if runs < self.stretches.len() / MANY {
+            self.forget();
+        }
+    }
+
+    // Forgets all keys. No access stands alone.
+    fn forget(&mut self)
+        requires { self.old.singles.list.items ≡ [] }
+        ensures stretches { self.new.stretches.items ≡ [] }
+        ensures singles { self.new.singles ≡ self.old.singles }
+    {
+        self.stretches.clear();
+        self.places = BTreeMap::new(self.alloc);
+        self.followers.clear();
+        self.last = 0;
+        self.room = 0;
     }
 
     // Adds an access of the key at this place.
@@ -244,7 +300,7 @@ impl Summary {
         ensures singles { self.new.singles ≡ self.old.singles }
         ensures same { HoldsSame self.old.stretches.items self.new.stretches.items }
         ensures key { (d : Stretch) → (slice_index_or self.new.stretches.items place d).key ≡ (slice_index_or self.old.stretches.items place d).key }
-        ensures room { OnOk result ((d : Stretch) → HasRoom (slice_index_or self.new.stretches.items place d)) }
+        ensures room { OnOk result ((d : Stretch) → FitsAddress (slice_index_or self.new.stretches.items place d)) }
     {
         if self.stretches[place].has_room() {
             return Ok(());
@@ -276,7 +332,7 @@ impl Summary {
         ensures singles { self.new.singles ≡ self.old.singles }
         ensures same { HoldsSame self.old.stretches.items self.new.stretches.items }
         ensures key { (d : Stretch) → (slice_index_or self.new.stretches.items place d).key ≡ (slice_index_or self.old.stretches.items place d).key }
-        ensures room { OnOk result ((d : Stretch) → HasRoom (slice_index_or self.new.stretches.items place d)) }
+        ensures room { OnOk result ((d : Stretch) → FitsAddress (slice_index_or self.new.stretches.items place d)) }
     {
         let before = half(self.stretches[place].limit);
         let room = self.room - before + half(limit);
@@ -288,7 +344,7 @@ impl Summary {
 
     fn add_at(&mut self, place: usize, address: u64)
         requires place { place < vec_len self.old.stretches }
-        requires room { (d : Stretch) → HasRoom (slice_index_or self.old.stretches.items place d) }
+        requires room { (d : Stretch) → FitsAddress (slice_index_or self.old.stretches.items place d) }
         requires end { (d : Stretch) → address + (slice_index_or self.old.stretches.items place d).key.size ≤ 2 ^ 48 }
         ensures added { (d : Stretch) → HoldsOneMore self.old.stretches.items self.new.stretches.items (slice_index_or self.old.stretches.items place d).key address }
         ensures singles { self.new.singles ≡ self.old.singles }

@@ -1,8 +1,7 @@
 -- What is known of the bytes that were read ahead.
-use Rattle.std.proofs.Common.{◌≡◌, inl, inr, sym, ap, subst, ◌∙◌, arith, ℕ, ◌+◌, ◌-◌, ◌<◌, ◌≤◌, List, ◌++◌, length, take, drop, length-append, length-take, length-drop}
+use Rattle.std.proofs.Common.{◌≡◌, sym, ap, subst, ◌∙◌, arith, ℕ, ◌+◌, ◌-◌, ◌<◌, ◌≤◌, List, ◌++◌, length, take, drop, length-append, length-take, length-drop}
 use Rattle.std.proofs.Math.Seq.{take-add, take-append-add}
-use Rattle.std.proofs.lemmas.Bool.{cases_lt}
-use Rattle.std.proofs.lemmas.List.{take_all, take-take, take-append-le, drop-drop, drop-take}
+use Rattle.std.proofs.lemmas.List.{take-take, take-append-le, drop-drop, drop-take}
 use Rattle.sw_base.specs.Environment.{Reads}
 use Rattle.sw_base.specs.Window.{Window, Shows, skipped}
 
@@ -36,12 +35,6 @@ module _ (place : ℕ) (bytes file : List ℕ) (shows : bytes ≡ take (length b
   -- so many bytes are there
   pub shows_enough : (count : ℕ) → count ≤ length bytes → take count bytes ≡ take count (drop place file)
   shows_enough count enough = ap (λ (bs : List ℕ). take count bs) shows ∙ take-take count (length bytes) (drop place file) enough
-
-  -- no byte is left
-  pub shows_all : (count : ℕ) (chunk : List ℕ) → Reads file (place + length bytes) 0 chunk → 0 < length chunk → take count bytes ≡ take count (drop place file)
-  shows_all count chunk reads room = ap (λ (bs : List ℕ). take count bs) (shows ∙ take_all (length bytes) (drop place file) (omega (arith, length-drop place file, ended))) where
-    ended : length file ≤ place + length bytes
-    ended = elim (cases_lt (place + length bytes) (length file)) [ inl more ↦ let some = reads.some room more in absurd (omega arith) | inr over ↦ over ]
 
 -- bytes were passed
 pub shows_skipped : (window : Window) (file : List ℕ) (count : ℕ) → count ≤ length window.ahead → Shows window file → Shows (skipped count window) file

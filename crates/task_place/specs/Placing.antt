@@ -22,7 +22,7 @@ abbrev pub meant : Element → model.Element
 meant e = record { addr = e.addr; width = e.width }
 
 -- it is the element of this number of an array
-pub record IsNumbered (arrays : List Array) (e : Element) : Type 0 where
+pub record IsNumberedElement (arrays : List Array) (e : Element) : Type 0 where
   pub place : ℕ
   pub array : Array
   pub number : ℕ
@@ -37,4 +37,4 @@ pub record IsElement (arrays : List Array) (words : ℕ) (found : Option model.E
   pub is : found ≡ Some (meant e)
   pub width : IsWidth e.width
   pub inside : e.word < words
-  pub numbered : IsNumbered arrays e
+  pub numbered : IsNumberedElement arrays e

@@ -1,6 +1,7 @@
 //! The elements of a kernel's arrays, and where a task runs.
 ghost use Rattle.std.specs.Prelude.{◌≡◌, ◌+◌, ◌*◌, ◌<◌, ℕ, MatchOption, None};
 ghost use Rattle.kernel_syntax.specs.Layout.{ArePlaced, elements};
+ghost use Rattle.kernel_model.specs.State.{event};
 ghost use Rattle.kernel_model.specs.Value.{access, element_at};
 ghost use Rattle.task_place.specs.Placing.{AreLaidOut, HasLane, IsElement, meant};
 
@@ -27,6 +28,20 @@ pub fn access(kind: Kind, element: &Element, line: u32, site: u16, value: i64) -
         line,
         addr: element.addr,
         value: value.cast_unsigned(),
+    }
+}
+
+/// The record of a step that is no access.
+pub fn event(kind: Kind, line: u32, addr: u64, value: u64) -> Record
+    ensures { result ≡ event kind line addr value }
+{
+    Record {
+        kind,
+        size: 0,
+        site: 0,
+        line,
+        addr,
+        value,
     }
 }
 
@@ -64,13 +79,13 @@ pub fn element_in(arrays: &[Array], array: u32, index: i64) -> Option<Element>
 
 /// Where a task runs: the kernel's arrays, and its lane among the lanes of its team.
 #[derive(Drop)]
-pub struct Place<'a> {
+pub struct TaskPlace<'a> {
     arrays: &'a [Array],
     lane: u16,
     span: u16,
 }
 
-impl<'a> Model for Place<'a> {
+impl<'a> Model for TaskPlace<'a> {
     ghost use Rattle.kernel_model.specs.Value.{Site};
     ghost use Rattle.task_place.specs.Placing.{HasLane};
 
@@ -81,12 +96,12 @@ impl<'a> Model for Place<'a> {
     ghost invariant = { λ p. HasLane (record { arrays = p.arrays.now; lane = p.lane; span = p.span }) };
 }
 
-impl<'a> Place<'a> {
-    pub fn new(arrays: &'a [Array], lane: u16, span: u16) -> Place<'a>
+impl<'a> TaskPlace<'a> {
+    pub fn new(arrays: &'a [Array], lane: u16, span: u16) -> TaskPlace<'a>
         requires { HasLane (record { arrays = arrays.now; lane = lane; span = span }) }
         ensures { result ≡ record { arrays = arrays.now; lane = lane; span = span } }
     {
-        Place { arrays, lane, span }
+        TaskPlace { arrays, lane, span }
     }
 
     /// The lane's number in its team.

@@ -58,7 +58,7 @@ pub record AsksRun (arguments : List (List ℕ)) : Type 0 where
   pub says : SaysRun arguments kernel dir size
 
 -- the arguments ask for a run, and it can begin
-pub record BeginsRun (arguments : List (List ℕ)) (files : Files) : Type 0 where
+pub record StartsRun (arguments : List (List ℕ)) (files : Files) : Type 0 where
   pub kernel : List ℕ
   pub dir : List ℕ
   pub size : ℕ
@@ -114,6 +114,13 @@ pub record SaysCertify (arguments : List (List ℕ)) (kernel : List ℕ) : Type 
   pub are : arguments ≡ codes "certify" ∷ kernel ∷ []
   pub kernel_is : IsName kernel
 
+-- the arguments ask what the run of this folder tells
+pub data AsksOfRun (arguments : List (List ℕ)) (dir : List ℕ) : Type 0 where
+  to_check : (workers : ℕ) → SaysCheck arguments dir workers → AsksOfRun arguments dir
+  to_show : SaysShow arguments dir → AsksOfRun arguments dir
+  to_explain : (low high : ℕ) → SaysExplain arguments dir low high → AsksOfRun arguments dir
+  to_confirm : (first_row first second_row second : ℕ) → SaysConfirm arguments dir first_row first second_row second → AsksOfRun arguments dir
+
 -- the arguments ask to bring a folder over
 pub record AsksUpgrade (arguments : List (List ℕ)) : Type 0 where
   pub dir : List ℕ
@@ -134,7 +141,7 @@ AsksToWrite arguments = AsksRun arguments ⊎ AsksUpgrade arguments
 
 -- and it can begin
 abbrev pub BeginsToWrite : List (List ℕ) → Files → Type 0
-BeginsToWrite arguments files = BeginsRun arguments files ⊎ BeginsUpgrade arguments files
+BeginsToWrite arguments files = StartsRun arguments files ⊎ BeginsUpgrade arguments files
 
 -- the arguments ask for it
 abbrev pub Says : List (List ℕ) → Request → Type 0

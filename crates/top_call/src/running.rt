@@ -34,6 +34,7 @@ pub fn run_file<R: Threads + Wait + Sync + Copy + Send + 'static, F: Folder, O: 
         IsFailure result → LeavesPart (Rose (F.state folder.old).write_faults (F.state folder.new).write_faults) kernel.now dir.now size c d)) }
     ensures reads { result ≡ READ_FAULT → F.state folder.new ≡ F.state folder.old }
     ensures read_fault { result ≡ READ_FAULT → Rose (F.read_faults folder.old) (F.read_faults folder.new) }
+    ensures no_read_fault { (result ≡ READ_FAULT → ⊥) → F.read_faults folder.new ≡ F.read_faults folder.old }
     ensures write_fault { result ≡ WRITE_FAULT → Rose (O.faults out.old) (O.faults out.new) ⊎ Rose (F.state folder.old).write_faults (F.state folder.new).write_faults }
     ensures no_fault { result ≡ DONE → (F.state folder.new).write_faults ≡ (F.state folder.old).write_faults }
     ensures only_printed { WhereTold (F.state folder.old).content (λ c. ((p : Program) → CanRun c.held kernel.now dir.now p → ⊥) →

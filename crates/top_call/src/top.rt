@@ -3,7 +3,7 @@ ghost use Rattle.std.specs.Prelude.{◌≡◌, ◌⊎◌, ℕ, List, is_some};
 ghost use Rattle.sw_base.specs.Environment.{Rose, WhereTold, next_count};
 ghost use Rattle.command_answer.specs.Answer.{Answers, IsFailure, Tries};
 ghost use Rattle.certify_command.specs.Certify.{CertifyDue};
-ghost use Rattle.folder_commands.specs.Check.{FolderDue, HasReport};
+ghost use Rattle.folder_commands.specs.Check.{AnswersForRun, AnswersRefusal, HasReport};
 ghost use Rattle.folder_commands.specs.Confirm.{HasConfirmation};
 ghost use Rattle.folder_commands.specs.Explain.{HasExplanation};
 ghost use Rattle.run_command.specs.Run.{LeavesPart, RunDue};
@@ -12,7 +12,7 @@ ghost use Rattle.folder_commands.specs.Replay.{ReplayDue};
 ghost use Rattle.folder_commands.specs.Show.{ShowsRecords};
 ghost use Rattle.folder_commands.specs.Upgrade.{IsUpgraded, UpgradeDue};
 ghost use Rattle.log_upgrade.specs.Upgrade.{LeavesUpgrade};
-ghost use Rattle.top_call.specs.Arguments.{AsksToRead, AsksToWrite, AsksUpgrade, BeginsToWrite, IsUsage, SaysCertify, SaysCheck, SaysConfirm, SaysExplain, SaysGen, SaysReplay, SaysRun, SaysShow, SaysUpgrade, UsageDue, texts};
+ghost use Rattle.top_call.specs.Arguments.{AsksOfRun, AsksToRead, AsksToWrite, AsksUpgrade, BeginsToWrite, IsUsage, SaysCertify, SaysCheck, SaysConfirm, SaysExplain, SaysGen, SaysReplay, SaysRun, SaysShow, SaysUpgrade, UsageDue, texts};
 ghost use Rattle.command_answer.specs.declared.status.TheConstants.{DONE, USAGE, READ_FAULT, WRITE_FAULT};
 
 use crate::arguments::{Command, read_arguments};
@@ -51,15 +51,14 @@ pub fn sword<R: Threads + Wait + Sync + Copy + Send + 'static, F: Folder, O: Out
     ensures usage { IsUsage (texts arguments.now) → Answers UsageDue (O.written out.old) (O.written out.new) result }
     ensures only_usage { result ≡ USAGE → IsUsage (texts arguments.now) }
 
-    // `check` answers the first bad place of the folder; or, of the run that it holds, exactly the line pairs of accesses that
-    // share a byte, one that writes or updates and not both updates, unordered by forks, joins and barriers, without a common mutex, once
-    // and in order.
+    // `check` answers, of the good run that a folder holds, exactly the line pairs of accesses that share a byte, one that writes or updates and
+    // not both updates, unordered by forks, joins and barriers, without a common mutex, once and in order. A folder that holds none is refused.
     ensures check { (dir : List ℕ) (workers : ℕ) → SaysCheck (texts arguments.now) dir workers → WhereTold (F.state folder.old).content (λ c.
-        Answers (FolderDue HasReport c.held dir) (O.written out.old) (O.written out.new) result) }
+        AnswersForRun HasReport c.held dir (O.written out.old) (O.written out.new) result) }
 
-    // `show` answers the first bad place of the folder, or every record of the run that it holds.
+    // `show` answers every record of the good run that a folder holds.
     ensures show { (dir : List ℕ) → SaysShow (texts arguments.now) dir → WhereTold (F.state folder.old).content (λ c.
-        Answers (FolderDue ShowsRecords c.held dir) (O.written out.old) (O.written out.new) result) }
+        AnswersForRun ShowsRecords c.held dir (O.written out.old) (O.written out.new) result) }
 
     // `replay` answers that there is no kernel, or the first bad place of the folder; that the folder holds a run of the kernel, each log the
     // whole trace of its task under what the log reads and draws; or the first record, in the order of the rows and then by number,
@@ -88,15 +87,18 @@ pub fn sword<R: Threads + Wait + Sync + Copy + Send + 'static, F: Folder, O: Out
     ensures upgrade_leaves { (dir new : List ℕ) → SaysUpgrade (texts arguments.now) dir new → IsFailure result → WhereTold (F.state folder.old).content (λ c.
         WhereTold (F.state folder.new).content (λ d. LeavesUpgrade dir new c d)) }
 
-    // `explain` answers the first bad place of the folder; or, of the run that it holds, the least race of the two lines, whose records `confirm`
-    // confirms, or that the lines are no race pair.
+    // `explain` answers, of the good run that a folder holds, the least race of the two lines, whose records `confirm` confirms, or that the lines are
+    // no race pair.
     ensures explain { (dir : List ℕ) (low high : ℕ) → SaysExplain (texts arguments.now) dir low high → WhereTold (F.state folder.old).content (λ c.
-        Answers (FolderDue (HasExplanation low high) c.held dir) (O.written out.old) (O.written out.new) result) }
+        AnswersForRun (HasExplanation low high) c.held dir (O.written out.old) (O.written out.new) result) }
 
-    // `confirm` answers the first bad place of the folder; or, of the run that it holds, the first byte that the two records have in common
-    // if they race, or that they don't.
+    // `confirm` answers, of the good run that a folder holds, the first byte that the two records have in common if they race, or that they don't.
     ensures confirm { (dir : List ℕ) (first_row first second_row second : ℕ) → SaysConfirm (texts arguments.now) dir first_row first second_row second → WhereTold (F.state folder.old).content (λ c.
-        Answers (FolderDue (HasConfirmation first_row first second_row second) c.held dir) (O.written out.old) (O.written out.new) result) }
+        AnswersForRun (HasConfirmation first_row first second_row second) c.held dir (O.written out.old) (O.written out.new) result) }
+
+    // A folder that `check`, `show`, `explain` or `confirm` refuses is refused by its first bad place.
+    ensures refusal { (dir : List ℕ) → AsksOfRun (texts arguments.now) dir → WhereTold (F.state folder.old).content (λ c.
+        AnswersRefusal c.held dir (O.written out.old) (O.written out.new) result) }
 
     // `certify` answers that there is no kernel, or a verdict on the kernel whose cause is there: that each of its runs that ends has the logs of its
     // serial run, of which it prints the text of `run`; or the first reason for which that isn't certain.
@@ -107,6 +109,8 @@ pub fn sword<R: Threads + Wait + Sync + Copy + Send + 'static, F: Folder, O: Out
     // made again. After a read that failed only an upgrade has written.
     ensures run_reads { (AsksUpgrade (texts arguments.now) → ⊥) → result ≡ READ_FAULT → F.state folder.new ≡ F.state folder.old }
     ensures read_fault { result ≡ READ_FAULT → Rose (F.read_faults folder.old) (F.read_faults folder.new) }
+    // No read that failed was made again, or is told as something else.
+    ensures no_read_fault { (result ≡ READ_FAULT → ⊥) → F.read_faults folder.new ≡ F.read_faults folder.old }
     ensures only_reads { result ≡ READ_FAULT → AsksToRead (texts arguments.now) }
     ensures write_fault { result ≡ WRITE_FAULT → Rose (O.faults out.old) (O.faults out.new)
         ⊎ (AsksToWrite (texts arguments.now) × Rose (F.state folder.old).write_faults (F.state folder.new).write_faults) }

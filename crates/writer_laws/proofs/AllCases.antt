@@ -11,7 +11,7 @@ use Rattle.race_model.specs.Race.{IsAccess}
 use Rattle.race_model.specs.ForkJoin.{IsForkJoin}
 use Rattle.race_laws.proofs.ForkJoinExample.{EachTask, at_task}
 use Rattle.race_laws.proofs.LabelPlace.{not_both_empty}
-use Rattle.writer_laws.specs.Cases.{access, of_mutex, mark, fork, lane, all_but, no_root_access, reader, whole_run, without_root, without_repeated, with_locks_moved, without_values, cut_run, first_folder, second_folder}
+use Rattle.writer_laws.specs.Cases.{plain_access, of_mutex, mark_of_kind, fork, lane, all_but, no_root_access, reader, whole_run, without_root, without_repeated, with_locks_moved, without_values, cut_run, first_folder, second_folder}
 use Rattle.writer_laws.specs.Cutting.{cut_number, IsLaneCut, IsElsewhere, IsCut}
 use Rattle.writer_laws.specs.Dropping.{MayBeDropped, Drops, DropsAtRoot}
 use Rattle.writer_laws.specs.Guards.{Guarded, guarded, AreGuardedAlike, DifferInLocks}
@@ -48,8 +48,8 @@ root_is_dropped = record {
 }
   where
     is_access : (x : Node) (r : Record) → record_at (logs_of whole_run) x ≡ Some r → (x ≡ record { path = []; index = 0 }) ⊎ (x ≡ record { path = []; index = 2 }) → IsAccess r
-    is_access x r found (inl is) = subst IsAccess (same_Some (access Write 3 400 7) r (subst (λ (n : Node). record_at (logs_of whole_run) n ≡ Some r) is found)) (inr (inl refl))
-    is_access x r found (inr is) = subst IsAccess (same_Some (access Read 4 400 7) r (subst (λ (n : Node). record_at (logs_of whole_run) n ≡ Some r) is found)) (inl refl)
+    is_access x r found (inl is) = subst IsAccess (same_Some (plain_access Write 3 400 7) r (subst (λ (n : Node). record_at (logs_of whole_run) n ≡ Some r) is found)) (inr (inl refl))
+    is_access x r found (inr is) = subst IsAccess (same_Some (plain_access Read 4 400 7) r (subst (λ (n : Node). record_at (logs_of whole_run) n ≡ Some r) is found)) (inl refl)
 
     in_root : (x : Node) → (x ≡ record { path = []; index = 0 }) ⊎ (x ≡ record { path = []; index = 2 }) → x.path ≡ []
     in_root x (inl is) = ap (λ (n : Node). n.path) is
@@ -61,16 +61,16 @@ repeated_is_dropped = record {
   kept = kept_logs (all_but (lane 0 0) 3) without_root without_repeated (refl, refl, (refl, refl, (refl, refl, (refl, refl, (refl, refl, (refl, refl, (refl, refl, tt)))))));
   accesses = λ x r found out. subst IsAccess (same x r found out) (inr (inl refl));
   each = λ x r found out. subst (λ (e : Record). MayBeDropped (all_but (lane 0 0) 3) (logs_of without_root) x e) (same x r found out)
-      (subst (λ (n : Node). MayBeDropped (all_but (lane 0 0) 3) (logs_of without_root) n (access Write 5 100 8)) (sym (left_out (lane 0 0) 3 x out)) (MayBeDropped.repeated first refl));
+      (subst (λ (n : Node). MayBeDropped (all_but (lane 0 0) 3) (logs_of without_root) n (plain_access Write 5 100 8)) (sym (left_out (lane 0 0) 3 x out)) (MayBeDropped.repeated first refl));
 }
   where
-    same : (x : Node) (r : Record) → record_at (logs_of without_root) x ≡ Some r → all_but (lane 0 0) 3 x ≡ false → access Write 5 100 8 ≡ r
-    same x r found out = same_Some (access Write 5 100 8) r (subst (λ (n : Node). record_at (logs_of without_root) n ≡ Some r) (left_out (lane 0 0) 3 x out) found)
+    same : (x : Node) (r : Record) → record_at (logs_of without_root) x ≡ Some r → all_but (lane 0 0) 3 x ≡ false → plain_access Write 5 100 8 ≡ r
+    same x r found out = same_Some (plain_access Write 5 100 8) r (subst (λ (n : Node). record_at (logs_of without_root) n ≡ Some r) (left_out (lane 0 0) 3 x out) found)
 
-    first : HasStandIn (IsAtPlace (logs_of without_root) (logs_of without_root)) (logs_of without_root) (logs_of without_root) (record { path = lane 0 0; index = 3 }) (access Write 5 100 8)
+    first : HasStandIn (IsAtPlace (logs_of without_root) (logs_of without_root)) (logs_of without_root) (logs_of without_root) (record { path = lane 0 0; index = 3 }) (plain_access Write 5 100 8)
     first = record {
       place = record { path = lane 0 0; index = 1 };
-      event = access Write 5 100 7;
+      event = plain_access Write 5 100 7;
       found = refl;
       answers = record { same_task = refl; as_many = refl };
       covers = record { same_line = refl; bytes = λ byte has. record { from_start = has.from_start; to_end = has.to_end }; kind = inl refl };
@@ -80,7 +80,7 @@ repeated_is_dropped = record {
 -- with locks moved
 guards_itself : (guards : List Guarded) → AreGuardedAlike guards guards
 guards_itself [] = tt
-guards_itself (g ∷ guards) = (refl, (λ access m. (λ h. h, λ h. h)), guards_itself guards)
+guards_itself (g ∷ guards) = (refl, (λ plain_access m. (λ h. h, λ h. h)), guards_itself guards)
 
 other_kind : (r : Record) (P : Type 0) → (r.kind ≡ Region) ⊎ (r.kind ≡ Barrier) → IsAccess r → P
 other_kind r P (inl region) (inl read) = cc
@@ -97,27 +97,27 @@ pub locks_are_moved : DifferInLocks (logs_of without_repeated) (logs_of with_loc
 locks_are_moved = record {
   guards = λ path. alike_logs alike without_repeated with_locks_moved tt (
     refl,
-    itself (fork ∷ mark End ∷ []),
+    itself (fork ∷ mark_of_kind End ∷ []),
     (
       refl,
       (
         refl,
-        (λ access m. (λ h. h, λ h. h)),
+        (λ plain_access m. (λ h. h, λ h. h)),
         (
           refl,
-          (λ access. other_kind fork _ (inl refl) access),
+          (λ plain_access. other_kind fork _ (inl refl) plain_access),
           (
             refl,
-            (λ access. other_kind (mark Barrier) _ (inr refl) access),
+            (λ plain_access. other_kind (mark_of_kind Barrier) _ (inr refl) plain_access),
             (
               refl,
-              (λ access. other_kind fork _ (inl refl) access),
-              (refl, (λ access m. (λ h. h, λ h. h)), (refl, (λ access m. (λ h. h, λ h. h)), tt)),
+              (λ plain_access. other_kind fork _ (inl refl) plain_access),
+              (refl, (λ plain_access m. (λ h. h, λ h. h)), (refl, (λ plain_access m. (λ h. h, λ h. h)), tt)),
             ),
           ),
         ),
       ),
-      (refl, itself (access Write 6 100 0 ∷ mark End ∷ []), (refl, itself (mark End ∷ []), (refl, itself (access Write 9 300 0 ∷ mark End ∷ []), (refl, itself (access Read 10 300 0 ∷ mark End ∷ []), (refl, itself reader, tt))))),
+      (refl, itself (plain_access Write 6 100 0 ∷ mark_of_kind End ∷ []), (refl, itself (mark_of_kind End ∷ []), (refl, itself (plain_access Write 9 300 0 ∷ mark_of_kind End ∷ []), (refl, itself (plain_access Read 10 300 0 ∷ mark_of_kind End ∷ []), (refl, itself reader, tt))))),
     ),
   ) path;
   ended = λ path task. (fork_join_by with_locks_moved refl).ends.ended path task;
@@ -134,17 +134,17 @@ same_all : (records : List Record) → AreSameButValues records records
 same_all [] = tt
 same_all (r ∷ records) = (same_one r, same_all records)
 
-other_value : (line addr : ℕ) → IsSameButValue (access Write line addr 7) (access Write line addr 0)
+other_value : (line addr : ℕ) → IsSameButValue (plain_access Write line addr 7) (plain_access Write line addr 0)
 other_value line addr = record { kind = refl; size = refl; line = refl; addr = refl; span = λ is. cc }
 
 pub values_are_zero : DifferInValues (logs_of with_locks_moved) (logs_of without_values)
 values_are_zero path = alike_logs AreSameButValues with_locks_moved without_values tt (
   refl,
-  same_all (fork ∷ mark End ∷ []),
+  same_all (fork ∷ mark_of_kind End ∷ []),
   (
     refl,
-    (same_one (of_mutex Lock 1), (other_value 5 100, (same_one (of_mutex Unlock 1), (same_one fork, (same_one (mark Barrier), (same_one fork, (same_one (of_mutex Lock 1), (other_value 8 200, same_all (of_mutex Unlock 1 ∷ mark End ∷ []))))))))),
-    (refl, same_all (access Write 6 100 0 ∷ mark End ∷ []), (refl, same_all (mark End ∷ []), (refl, same_all (access Write 9 300 0 ∷ mark End ∷ []), (refl, same_all (access Read 10 300 0 ∷ mark End ∷ []), (refl, same_all reader, tt))))),
+    (same_one (of_mutex Lock 1), (other_value 5 100, (same_one (of_mutex Unlock 1), (same_one fork, (same_one (mark_of_kind Barrier), (same_one fork, (same_one (of_mutex Lock 1), (other_value 8 200, same_all (of_mutex Unlock 1 ∷ mark_of_kind End ∷ []))))))))),
+    (refl, same_all (plain_access Write 6 100 0 ∷ mark_of_kind End ∷ []), (refl, same_all (mark_of_kind End ∷ []), (refl, same_all (plain_access Write 9 300 0 ∷ mark_of_kind End ∷ []), (refl, same_all (plain_access Read 10 300 0 ∷ mark_of_kind End ∷ []), (refl, same_all reader, tt))))),
   ),
 ) path
 
@@ -170,9 +170,9 @@ elsewhere = (
 
 lanes : (n : ℕ) → n < 2 → IsLaneCut 0 (logs_of without_values (lane_of [] 0 n 2)) (logs_of cut_run (lane_of [] 0 n 2)) (logs_of cut_run (lane_of [] 1 n 2))
 lanes zero less = record {
-  first = of_mutex Lock 1 ∷ access Write 5 100 0 ∷ of_mutex Unlock 1 ∷ fork ∷ [];
-  barrier = mark Barrier;
-  ended = mark End;
+  first = of_mutex Lock 1 ∷ plain_access Write 5 100 0 ∷ of_mutex Unlock 1 ∷ fork ∷ [];
+  barrier = mark_of_kind Barrier;
+  ended = mark_of_kind End;
   whole_is = refl;
   early_is = refl;
   at_barrier = refl;
@@ -181,9 +181,9 @@ lanes zero less = record {
   unlocked = refl;
 }
 lanes (suc zero) less = record {
-  first = access Read 7 100 0 ∷ [];
-  barrier = mark Barrier;
-  ended = mark End;
+  first = plain_access Read 7 100 0 ∷ [];
+  barrier = mark_of_kind Barrier;
+  ended = mark_of_kind End;
   whole_is = refl;
   early_is = refl;
   at_barrier = refl;
@@ -198,7 +198,7 @@ region_is_cut = record {
   before = [];
   region = fork;
   again = fork;
-  after = mark End ∷ [];
+  after = mark_of_kind End ∷ [];
   root = refl;
   new_root = refl;
   number_is = refl;
@@ -225,8 +225,8 @@ kept_there k part fine each path other f n s from lane =
 pub run_is_split : IsSplit (logs_of cut_run) (logs_of first_folder) (logs_of second_folder)
 run_is_split = record {
   before = fork ∷ [];
-  after = fork ∷ mark End ∷ [];
-  ended = mark End;
+  after = fork ∷ mark_of_kind End ∷ [];
+  ended = mark_of_kind End;
   root = refl;
   first_root = refl;
   second_root = refl;

@@ -15,7 +15,7 @@ use Rattle.race_model.specs.Race.{IsAccess, IsRacePair, held_at}
 use Rattle.race_model.specs.ForkJoin.{IsForkJoin, IsTask, EndsOnce, WasForked}
 use Rattle.race_model.proofs.TraceLogs.{record_there}
 use Rattle.race_laws.proofs.LabelPlace.{HasLast, has_last}
-use Rattle.writer_laws.specs.Places.{Fork, forks}
+use Rattle.writer_laws.specs.Places.{ForkPlace, forks}
 use Rattle.writer_laws.specs.Renumbering.{IsFrom, ComesFrom}
 use Rattle.writer_laws.specs.StandIns.{HasStandIn, IsReplaced}
 use Rattle.writer_laws.specs.Cutting.{undouble, cut_number, cut_offset, IsLaneCut, IsElsewhere, IsCut}
@@ -26,7 +26,8 @@ use Rattle.writer_laws.proofs.Numbers.{same_number, other_number, number_itself,
 use Rattle.writer_laws.proofs.Origins.{HasOrigin, origin}
 use Rattle.writer_laws.proofs.Replaced.{covers_itself, no_pair_lost}
 use Rattle.writer_laws.proofs.Unordered.{root_ordered}
-use Rattle.writer_laws.proofs.CutForks.{barriers_both, get_either, doubled_get, undouble_early, undouble_late}
+use Rattle.race_model.proofs.Counted.{barriers_both}
+use Rattle.writer_laws.proofs.CutForks.{get_either, doubled_get, undouble_early, undouble_late}
 use Rattle.writer_laws.proofs.CutRecords.{IsMoved, not_moved, early_moved, late_moved}
 use Rattle.writer_laws.proofs.CutTasks as tasks
 
@@ -198,7 +199,7 @@ module _ (k c span : ℕ) (logs others : Logs) (cut : IsCut k c span logs others
       let here : slice_get (tasks.fore k c span logs others cut ++ tasks.doubled k c span logs others cut ∷ tasks.hind k c span logs others cut) k ≡ Some (tasks.doubled k c span logs others cut) =
       subst (λ (i : ℕ). slice_get (tasks.fore k c span logs others cut ++ tasks.doubled k c span logs others cut ∷ tasks.hind k c span logs others cut) i ≡ Some (tasks.doubled k c span logs others cut)) place
       (get_right (tasks.fore k c span logs others cut) (tasks.doubled k c span logs others cut ∷ tasks.hind k c span logs others cut) 0) in
-      let h = find_fork 0 (logs []) k (tasks.doubled k c span logs others cut) (subst (λ (l : List Fork). slice_get l k ≡ Some (tasks.doubled k c span logs others cut)) (sym (tasks.root_forks k c span logs others cut)) here) in
+      let h = find_fork 0 (logs []) k (tasks.doubled k c span logs others cut) (subst (λ (l : List ForkPlace). slice_get l k ≡ Some (tasks.doubled k c span logs others cut)) (sym (tasks.root_forks k c span logs others cut)) here) in
       record {
         fork = node [] h.index;
         lane = λ n within. record { event = h.event; found = h.found; region = h.region; spans = h.spans; in_span = within; child = ap (λ (q : ℕ). lane_of [] q n span) (sym h.number_is) };
@@ -450,9 +451,9 @@ module _ (k c span : ℕ) (logs others : Logs) (cut : IsCut k c span logs others
       let at_k : slice_get (forks (logs [])) k ≡ Some (record { span = lane.event.value; barriers = 0 + barriers_before logs f }) =
       subst (λ (q : ℕ). slice_get (forks (logs [])) q ≡ Some (record { span = lane.event.value; barriers = 0 + barriers_before logs f })) is
       (subst (λ (p : List Step). slice_get (forks (logs p)) (regions_before logs f) ≡ Some (record { span = lane.event.value; barriers = 0 + barriers_before logs f })) at_root listed) in
-      sym lane.spans ∙ same (record { span = lane.event.value; barriers = 0 + barriers_before logs f }) (subst (λ (fs : List Fork). slice_get fs k ≡ Some (record { span = lane.event.value; barriers = 0 + barriers_before logs f })) (tasks.root_forks k c span logs others cut) at_k)
+      sym lane.spans ∙ same (record { span = lane.event.value; barriers = 0 + barriers_before logs f }) (subst (λ (fs : List ForkPlace). slice_get fs k ≡ Some (record { span = lane.event.value; barriers = 0 + barriers_before logs f })) (tasks.root_forks k c span logs others cut) at_k)
     where
-      same : (f : Fork) → slice_get (tasks.fore k c span logs others cut ++ tasks.doubled k c span logs others cut ∷ tasks.hind k c span logs others cut) k ≡ Some f → f.span ≡ span
+      same : (f : ForkPlace) → slice_get (tasks.fore k c span logs others cut ++ tasks.doubled k c span logs others cut ∷ tasks.hind k c span logs others cut) k ≡ Some f → f.span ≡ span
       same f has =
           let fore = tasks.fore k c span logs others cut in
           let rest = tasks.doubled k c span logs others cut ∷ tasks.hind k c span logs others cut in
@@ -461,7 +462,7 @@ module _ (k c span : ℕ) (logs others : Logs) (cut : IsCut k c span logs others
           subst (λ (i : ℕ). slice_get (tasks.fore k c span logs others cut ++ tasks.doubled k c span logs others cut ∷ tasks.hind k c span logs others cut) i ≡ Some (tasks.doubled k c span logs others cut)) place
           (get_right (tasks.fore k c span logs others cut) (tasks.doubled k c span logs others cut ∷ tasks.hind k c span logs others cut) 0) in
           let equal : tasks.doubled k c span logs others cut ≡ f = cc in
-          sym (ap (λ (g : Fork). g.span) equal)
+          sym (ap (λ (g : ForkPlace). g.span) equal)
 
   in_root : (x : Node) (r : Record) (step : Step) → x.path ≡ step ∷ [] → WasForked logs [] step → record_at logs x ≡ Some r → (r.kind ≡ Barrier → ⊥) → HasPart x r
   in_root x r step parts forked found no_barrier = at (cases_lt step.region k) (cases_lt k step.region)
@@ -478,10 +479,10 @@ module _ (k c span : ℕ) (logs others : Logs) (cut : IsCut k c span logs others
 
       redoubled : (new : ℕ) → ((step.region < k) × (new ≡ step.region)) ⊎ ((k < step.region) × (new ≡ suc step.region)) → HasRootRegion new step.lane step.span
       redoubled new which = root_region new step.lane step.span (0 + barriers_before logs forked.fork) forked.lane.in_span
-          (subst (λ (fs : List Fork). slice_get fs new ≡ Some (record { span = step.span; barriers = 0 + barriers_before logs forked.fork })) (sym (tasks.new_forks k c span logs others cut))
+          (subst (λ (fs : List ForkPlace). slice_get fs new ≡ Some (record { span = step.span; barriers = 0 + barriers_before logs forked.fork })) (sym (tasks.new_forks k c span logs others cut))
           (doubled_get (tasks.fore k c span logs others cut) (tasks.hind k c span logs others cut) (tasks.doubled k c span logs others cut) (record { span = step.span; barriers = 0 + barriers_before logs forked.fork }) k step.region new
           (tasks.fore_length k c span logs others cut) which
-          (subst (λ (fs : List Fork). slice_get fs step.region ≡ Some (record { span = step.span; barriers = 0 + barriers_before logs forked.fork })) (tasks.root_forks k c span logs others cut) listed)))
+          (subst (λ (fs : List ForkPlace). slice_get fs step.region ≡ Some (record { span = step.span; barriers = 0 + barriers_before logs forked.fork })) (tasks.root_forks k c span logs others cut) listed)))
 
       at : (step.region < k) ⊎ (k ≤ step.region) → (k < step.region) ⊎ (step.region ≤ k) → HasPart x r
       at (inl less) also = other_region x r step.region step.region step.lane step.span parts (undouble_early k step.region (omega arith)) (λ e. omega arith) (λ e. omega arith) (redoubled step.region (inl (less, refl))) found

@@ -1,33 +1,26 @@
 -- The forks of logs that are put together.
 use Rattle.std.proofs.Common.{◌≡◌, ◌⊎◌, ℕ, zero, suc, ◌+◌, ◌<◌, ◌≤◌, Bool, true, false, cond, List, [], ◌∷◌, ◌++◌, length, Some, refl, ap, subst, arith, ◌∙◌, inl, inr}
 use Rattle.std.specs.Prelude.{slice_get}
-use Rattle.std.proofs.lemmas.List.Sums.{sum_by-append}
 use Rattle.log_format.specs.declared.record.Record.{Record}
 use Rattle.log_format.specs.declared.record.Kind.TheVariants.{End}
 use Rattle.race_model.specs.Trace.{is_region_kind, is_barrier_kind, region_count, barrier_count}
-use Rattle.writer_laws.specs.Places.{Fork, forks_from}
+use Rattle.writer_laws.specs.Places.{ForkPlace, forks_from}
 use Rattle.writer_laws.specs.Cutting.{undouble}
 use Rattle.writer_laws.proofs.Forks.{region_step, barrier_step}
 
-pub barriers_both : (xs ys : List Record) → barrier_count (xs ++ ys) ≡ barrier_count xs + barrier_count ys
-barriers_both xs ys = sum_by-append (λ (s : Record). cond (is_barrier_kind s.kind) 1 0) xs ys
-
-pub regions_both : (xs ys : List Record) → region_count (xs ++ ys) ≡ region_count xs + region_count ys
-regions_both xs ys = sum_by-append (λ (s : Record). cond (is_region_kind s.kind) 1 0) xs ys
-
-both_with : (p : Bool) (x : Fork) (xs ys : List Fork) → cond p (x ∷ (xs ++ ys)) (xs ++ ys) ≡ cond p (x ∷ xs) xs ++ ys
+both_with : (p : Bool) (x : ForkPlace) (xs ys : List ForkPlace) → cond p (x ∷ (xs ++ ys)) (xs ++ ys) ≡ cond p (x ∷ xs) xs ++ ys
 both_with true x xs ys = refl
 both_with false x xs ys = refl
 
 pub forks_both : (b : ℕ) (xs ys : List Record) → forks_from b (xs ++ ys) ≡ forks_from b xs ++ forks_from (b + barrier_count xs) ys
 forks_both b [] ys = let none : b ≡ b + 0 = omega arith in ap (λ (n : ℕ). forks_from n ys) none
 forks_both b (x ∷ xs) ys =
-    ap (λ (fs : List Fork). cond (is_region_kind x.kind) (record { span = x.value; barriers = b } ∷ fs) fs)
+    ap (λ (fs : List ForkPlace). cond (is_region_kind x.kind) (record { span = x.value; barriers = b } ∷ fs) fs)
     (forks_both (b + cond (is_barrier_kind x.kind) 1 0) xs ys
     ∙ ap (λ (n : ℕ). forks_from (b + cond (is_barrier_kind x.kind) 1 0) xs ++ forks_from n ys) (let step = barrier_step x xs in omega arith))
     ∙ both_with (is_region_kind x.kind) (record { span = x.value; barriers = b }) (forks_from (b + cond (is_barrier_kind x.kind) 1 0) xs) (forks_from (b + barrier_count (x ∷ xs)) ys)
 
-length_with : (p : Bool) (x : Fork) (xs : List Fork) (n m : ℕ) → length xs ≡ n → m ≡ cond p 1 0 + n → length (cond p (x ∷ xs) xs) ≡ m
+length_with : (p : Bool) (x : ForkPlace) (xs : List ForkPlace) (n m : ℕ) → length xs ≡ n → m ≡ cond p 1 0 + n → length (cond p (x ∷ xs) xs) ≡ m
 length_with true x xs n m e f = omega arith
 length_with false x xs n m e f = omega arith
 
@@ -37,10 +30,10 @@ forks_length b (x ∷ xs) = length_with (is_region_kind x.kind) (record { span =
     (forks_length (b + cond (is_barrier_kind x.kind) 1 0) xs) (region_step x xs)
 
 -- a fork after more barriers
-abbrev pub raised : Fork → ℕ → Fork
+abbrev pub raised : ForkPlace → ℕ → ForkPlace
 raised f d = record { span = f.span; barriers = f.barriers + d }
 
-pub forks_raised : (b d : ℕ) (xs : List Record) (r : ℕ) (f : Fork) → slice_get (forks_from b xs) r ≡ Some f → slice_get (forks_from (b + d) xs) r ≡ Some (raised f d)
+pub forks_raised : (b d : ℕ) (xs : List Record) (r : ℕ) (f : ForkPlace) → slice_get (forks_from b xs) r ≡ Some f → slice_get (forks_from (b + d) xs) r ≡ Some (raised f d)
 forks_raised b d [] r f found = cc
 forks_raised b d (x ∷ xs) r f found = at (is_region_kind x.kind) r found (λ m g has. subst (λ (n : ℕ). slice_get (forks_from n xs) m ≡ Some (raised g d)) turn (forks_raised (b + cond (is_barrier_kind x.kind) 1 0) d xs m g has))
   where
@@ -49,11 +42,11 @@ forks_raised b d (x ∷ xs) r f found = at (is_region_kind x.kind) r found (λ m
 
     at : (p : Bool) (n : ℕ)
         → slice_get (cond p (record { span = x.value; barriers = b } ∷ forks_from (b + cond (is_barrier_kind x.kind) 1 0) xs) (forks_from (b + cond (is_barrier_kind x.kind) 1 0) xs)) n ≡ Some f
-        → ((m : ℕ) (g : Fork) → slice_get (forks_from (b + cond (is_barrier_kind x.kind) 1 0) xs) m ≡ Some g → slice_get (forks_from ((b + d) + cond (is_barrier_kind x.kind) 1 0) xs) m ≡ Some (raised g d))
+        → ((m : ℕ) (g : ForkPlace) → slice_get (forks_from (b + cond (is_barrier_kind x.kind) 1 0) xs) m ≡ Some g → slice_get (forks_from ((b + d) + cond (is_barrier_kind x.kind) 1 0) xs) m ≡ Some (raised g d))
         → slice_get (cond p (record { span = x.value; barriers = b + d } ∷ forks_from ((b + d) + cond (is_barrier_kind x.kind) 1 0) xs) (forks_from ((b + d) + cond (is_barrier_kind x.kind) 1 0) xs)) n ≡ Some (raised f d)
     at true zero here more =
         let same : record { span = x.value; barriers = b } ≡ f = cc in
-        ap (λ (g : Fork). Some (raised g d)) same
+        ap (λ (g : ForkPlace). Some (raised g d)) same
     at true (suc n) here more = more n f here
     at false n here more = more n f here
 
@@ -122,11 +115,11 @@ doubled_get (z ∷ xs) ys x y (suc k) (suc old) zero long (inr (more, same)) fou
 doubled_get (z ∷ xs) ys x y (suc k) (suc old) (suc new) long (inl (less, same)) found = doubled_get xs ys x y k old new (omega arith) (inl (omega arith, omega arith)) found
 doubled_get (z ∷ xs) ys x y (suc k) (suc old) (suc new) long (inr (more, same)) found = doubled_get xs ys x y k old new (omega arith) (inr (omega arith, omega arith)) found
 
-pub some_fork : (b : ℕ) (records : List Record) (r : ℕ) (f : Fork) → slice_get (forks_from b records) r ≡ Some f → 0 < length records
+pub some_fork : (b : ℕ) (records : List Record) (r : ℕ) (f : ForkPlace) → slice_get (forks_from b records) r ≡ Some f → 0 < length records
 some_fork b [] r f found = cc
 some_fork b (x ∷ records) r f found = omega arith
 
-pub not_raised : (f : Fork) → f ≡ raised f 0
+pub not_raised : (f : ForkPlace) → f ≡ raised f 0
 not_raised f = let none : f.barriers ≡ f.barriers + 0 = omega arith in λ i. record { span = f.span; barriers = none i }
 
 pub no_fork : (b : ℕ) (r : Record) → r.kind ≡ End → forks_from b (r ∷ []) ≡ []

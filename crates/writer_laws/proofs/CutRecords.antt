@@ -9,7 +9,7 @@ use Rattle.race_model.specs.Trace.{region_count, barrier_count}
 use Rattle.race_model.specs.Race.{held_after, held_after_kind}
 use Rattle.race_model.proofs.Held.{held_after-append}
 use Rattle.writer_laws.proofs.Forks.{region_step, barrier_step}
-use Rattle.writer_laws.proofs.CutForks.{barriers_both, regions_both}
+use Rattle.race_model.proofs.Counted.{barriers_both, regions_both}
 
 -- a record of a log, and of a part of it before which so many barriers and regions come
 pub record IsMoved (barriers regions : ℕ) (whole part : List Record) (i j : ℕ) (r : Record) : Type 0 where

@@ -14,12 +14,13 @@ use Rattle.race_model.specs.Order.{IsLane}
 use Rattle.race_model.specs.ForkJoin.{IsTask}
 use Rattle.race_laws.proofs.Counts.{there}
 use Rattle.race_laws.proofs.LabelPlace.{not_both_empty, is_region, same_region}
-use Rattle.writer_laws.specs.Places.{Fork, forks, forks_from}
+use Rattle.writer_laws.specs.Places.{ForkPlace, forks, forks_from}
 use Rattle.writer_laws.specs.Renumbering.{IsFrom, WereForks, KeepsTeams}
 use Rattle.writer_laws.specs.Cutting.{undouble, cut_number, cut_offset, IsLaneCut, IsElsewhere, IsCut}
 use Rattle.writer_laws.proofs.Forks.{fork_listed, region_step, barrier_step}
 use Rattle.writer_laws.proofs.Numbers.{same_number, number_itself, other_number, not_next}
-use Rattle.writer_laws.proofs.CutForks.{barriers_both, regions_both, forks_both, forks_length, raised, forks_raised, get_either, undoubled, undouble_once, undouble_early, undouble_late, some_fork, not_raised, no_fork}
+use Rattle.race_model.proofs.Counted.{barriers_both, regions_both}
+use Rattle.writer_laws.proofs.CutForks.{forks_both, forks_length, raised, forks_raised, get_either, undoubled, undouble_once, undouble_early, undouble_late, some_fork, not_raised, no_fork}
 
 -- a fork is one of the log's
 pub region_within : (logs : Logs) (f : Node) (n s : ℕ) (child : List Step) → IsLane logs f n s child → regions_before logs f < region_count (logs f.path)
@@ -47,13 +48,13 @@ module _ (k c span : ℕ) (logs others : Logs) (cut : IsCut k c span logs others
   late_lane n = lane_of [] (suc k) n span
 
   -- the root's forks before and after
-  abbrev pub fore : List Fork
+  abbrev pub fore : List ForkPlace
   fore = forks cut.before
 
-  abbrev pub hind : List Fork
+  abbrev pub hind : List ForkPlace
   hind = forks_from (0 + barrier_count cut.before) cut.after
 
-  abbrev pub doubled : Fork
+  abbrev pub doubled : ForkPlace
   doubled = record { span = span; barriers = 0 + barrier_count cut.before }
 
   one_fork : (r : Record) (rest : List Record) (b : ℕ) → r.kind ≡ Region → r.value ≡ span → forks_from b (r ∷ rest) ≡ record { span = span; barriers = b } ∷ forks_from b rest
@@ -65,12 +66,12 @@ module _ (k c span : ℕ) (logs others : Logs) (cut : IsCut k c span logs others
 
   pub root_forks : forks (logs []) ≡ fore ++ doubled ∷ hind
   root_forks = ap forks cut.root ∙ (forks_both 0 cut.before (cut.region ∷ cut.after)
-      ∙ ap (λ (fs : List Fork). fore ++ fs) (one_fork cut.region cut.after (0 + barrier_count cut.before) cut.forks cut.spans))
+      ∙ ap (λ (fs : List ForkPlace). fore ++ fs) (one_fork cut.region cut.after (0 + barrier_count cut.before) cut.forks cut.spans))
 
   pub new_forks : forks (others []) ≡ fore ++ doubled ∷ doubled ∷ hind
   new_forks = ap forks cut.new_root ∙ (forks_both 0 cut.before (cut.region ∷ cut.again ∷ cut.after)
-      ∙ ap (λ (fs : List Fork). fore ++ fs) (one_fork cut.region (cut.again ∷ cut.after) (0 + barrier_count cut.before) cut.forks cut.spans
-      ∙ ap (λ (fs : List Fork). doubled ∷ fs) (one_fork cut.again cut.after (0 + barrier_count cut.before) cut.forks_again cut.spans_again)))
+      ∙ ap (λ (fs : List ForkPlace). fore ++ fs) (one_fork cut.region (cut.again ∷ cut.after) (0 + barrier_count cut.before) cut.forks cut.spans
+      ∙ ap (λ (fs : List ForkPlace). doubled ∷ fs) (one_fork cut.again cut.after (0 + barrier_count cut.before) cut.forks_again cut.spans_again)))
 
   pub fore_length : length fore ≡ k
   fore_length = forks_length 0 cut.before ∙ cut.number_is
@@ -80,20 +81,20 @@ module _ (k c span : ℕ) (logs others : Logs) (cut : IsCut k c span logs others
     pub within : n < span
     pub same_span : s ≡ span
 
-  two_seams : (r : ℕ) (f : Fork) → (r ≡ k) ⊎ (r ≡ suc k) → slice_get (forks (others [])) r ≡ Some f → f.span ≡ span
-  two_seams r f which found = at which (subst (λ (fs : List Fork). slice_get fs r ≡ Some f) new_forks found)
+  two_seams : (r : ℕ) (f : ForkPlace) → (r ≡ k) ⊎ (r ≡ suc k) → slice_get (forks (others [])) r ≡ Some f → f.span ≡ span
+  two_seams r f which found = at which (subst (λ (fs : List ForkPlace). slice_get fs r ≡ Some f) new_forks found)
     where
       at : (r ≡ k) ⊎ (r ≡ suc k) → slice_get (fore ++ doubled ∷ doubled ∷ hind) r ≡ Some f → f.span ≡ span
       at (inl is) has =
           let place : length fore + 0 ≡ r = (let long = fore_length in omega arith) in
           let here : slice_get (fore ++ doubled ∷ doubled ∷ hind) r ≡ Some doubled = subst (λ (i : ℕ). slice_get (fore ++ doubled ∷ doubled ∷ hind) i ≡ Some doubled) place (get_right fore (doubled ∷ doubled ∷ hind) 0) in
           let same : doubled ≡ f = cc in
-          sym (ap (λ (g : Fork). g.span) same)
+          sym (ap (λ (g : ForkPlace). g.span) same)
       at (inr is) has =
           let place : length fore + 1 ≡ r = (let long = fore_length in omega arith) in
           let here : slice_get (fore ++ doubled ∷ doubled ∷ hind) r ≡ Some doubled = subst (λ (i : ℕ). slice_get (fore ++ doubled ∷ doubled ∷ hind) i ≡ Some doubled) place (get_right fore (doubled ∷ doubled ∷ hind) 1) in
           let same : doubled ≡ f = cc in
-          sym (ap (λ (g : Fork). g.span) same)
+          sym (ap (λ (g : ForkPlace). g.span) same)
 
   pub real_lane : (f : Node) (n s : ℕ) (child : List Step) → IsLane others f n s child → f.path ≡ [] → (regions_before others f ≡ k) ⊎ (regions_before others f ≡ suc k) → IsRealLane n s
   real_lane f n s child lane at_root which =
@@ -194,7 +195,7 @@ module _ (k c span : ℕ) (logs others : Logs) (cut : IsCut k c span logs others
   past_barrier : (b : ℕ) (r : Record) (rest : List Record) → r.kind ≡ Barrier → forks_from b (r ∷ rest) ≡ forks_from (b + 1) rest
   past_barrier b r rest meets = rw meets refl
 
-  early_fork : (n : ℕ) → n < span → (r : ℕ) (f : Fork) → slice_get (forks (others (early_lane n))) r ≡ Some f → slice_get (forks (logs (early_lane n))) r ≡ Some f
+  early_fork : (n : ℕ) → n < span → (r : ℕ) (f : ForkPlace) → slice_get (forks (others (early_lane n))) r ≡ Some f → slice_get (forks (logs (early_lane n))) r ≡ Some f
   early_fork n within r f found = at (cut.lanes n within)
     where
       at : IsLaneCut c (logs (early_lane n)) (others (early_lane n)) (others (late_lane n)) → slice_get (forks (logs (early_lane n))) r ≡ Some f
@@ -202,16 +203,16 @@ module _ (k c span : ℕ) (logs others : Logs) (cut : IsCut k c span logs others
           let b : ℕ = 0 + barrier_count l.first in
           let parts : forks (others (early_lane n)) ≡ forks l.first ++ forks_from b (l.ended ∷ []) = ap forks l.early_is ∙ forks_both 0 l.first (l.ended ∷ []) in
           let all : forks (logs (early_lane n)) ≡ forks l.first ++ forks_from b (l.barrier ∷ others (late_lane n)) = ap forks l.whole_is ∙ forks_both 0 l.first (l.barrier ∷ others (late_lane n)) in
-          subst (λ (fs : List Fork). slice_get fs r ≡ Some f) (sym all)
+          subst (λ (fs : List ForkPlace). slice_get fs r ≡ Some f) (sym all)
           (by (forks l.first) (forks_from b (l.ended ∷ [])) (forks_from b (l.barrier ∷ others (late_lane n))) (no_fork b l.ended l.at_end)
-          (get_either (forks l.first) (forks_from b (l.ended ∷ [])) r f (subst (λ (fs : List Fork). slice_get fs r ≡ Some f) parts found)))
+          (get_either (forks l.first) (forks_from b (l.ended ∷ [])) r f (subst (λ (fs : List ForkPlace). slice_get fs r ≡ Some f) parts found)))
         where
           nothing : (m : ℕ) → slice_get [] m ≡ Some f → ⊥
           nothing m has = cc
 
-          by : (xs ys zs : List Fork) → ys ≡ [] → ((r < length xs) × (slice_get xs r ≡ Some f)) ⊎ ((m : ℕ) × (r ≡ length xs + m) × (slice_get ys m ≡ Some f)) → slice_get (xs ++ zs) r ≡ Some f
+          by : (xs ys zs : List ForkPlace) → ys ≡ [] → ((r < length xs) × (slice_get xs r ≡ Some f)) ⊎ ((m : ℕ) × (r ≡ length xs + m) × (slice_get ys m ≡ Some f)) → slice_get (xs ++ zs) r ≡ Some f
           by xs ys zs none (inl (less, has)) = get_more xs zs r f has
-          by xs ys zs none (inr (m, is, has)) = absurd (nothing m (subst (λ (fs : List Fork). slice_get fs m ≡ Some f) none has))
+          by xs ys zs none (inr (m, is, has)) = absurd (nothing m (subst (λ (fs : List ForkPlace). slice_get fs m ≡ Some f) none has))
 
   pub first_regions : (n : ℕ) (within : n < span) → region_count (others (early_lane n)) ≡ region_count (cut.lanes n within).first
   first_regions n within =
@@ -219,7 +220,7 @@ module _ (k c span : ℕ) (logs others : Logs) (cut : IsCut k c span logs others
       let none : region_count (l.ended ∷ []) ≡ 0 = region_step l.ended [] ∙ rw l.at_end refl in
       ap region_count l.early_is ∙ (regions_both l.first (l.ended ∷ []) ∙ (let sum : region_count l.first + region_count (l.ended ∷ []) ≡ region_count l.first = omega arith in sum))
 
-  late_fork : (n : ℕ) → n < span → (r : ℕ) (f : Fork) → slice_get (forks (others (late_lane n))) r ≡ Some f
+  late_fork : (n : ℕ) → n < span → (r : ℕ) (f : ForkPlace) → slice_get (forks (others (late_lane n))) r ≡ Some f
       → slice_get (forks (logs (early_lane n))) (r + region_count (others (early_lane n))) ≡ Some (raised f (suc c))
   late_fork n within r f found =
       let l = cut.lanes n within in
@@ -227,10 +228,10 @@ module _ (k c span : ℕ) (logs others : Logs) (cut : IsCut k c span logs others
       let all : forks (logs (early_lane n)) ≡ forks l.first ++ forks_from b (l.barrier ∷ others (late_lane n)) = ap forks l.whole_is ∙ forks_both 0 l.first (l.barrier ∷ others (late_lane n)) in
       let on : forks_from b (l.barrier ∷ others (late_lane n)) ≡ forks_from (0 + suc c) (others (late_lane n)) =
       past_barrier b l.barrier (others (late_lane n)) l.at_barrier ∙ ap (λ (d : ℕ). forks_from d (others (late_lane n))) (let passed = l.passed in let sum : b + 1 ≡ 0 + suc c = omega arith in sum) in
-      let whole : forks (logs (early_lane n)) ≡ forks l.first ++ forks_from (0 + suc c) (others (late_lane n)) = all ∙ ap (λ (fs : List Fork). forks l.first ++ fs) on in
+      let whole : forks (logs (early_lane n)) ≡ forks l.first ++ forks_from (0 + suc c) (others (late_lane n)) = all ∙ ap (λ (fs : List ForkPlace). forks l.first ++ fs) on in
       let long : length (forks l.first) ≡ region_count l.first = forks_length 0 l.first in
       let place : length (forks l.first) + r ≡ r + region_count (others (early_lane n)) = (let count = first_regions n within in omega arith) in
-      subst (λ (fs : List Fork). slice_get fs (r + region_count (others (early_lane n))) ≡ Some (raised f (suc c))) (sym whole)
+      subst (λ (fs : List ForkPlace). slice_get fs (r + region_count (others (early_lane n))) ≡ Some (raised f (suc c))) (sym whole)
       (subst (λ (i : ℕ). slice_get (forks l.first ++ forks_from (0 + suc c) (others (late_lane n))) i ≡ Some (raised f (suc c))) place
       (get_right (forks l.first) (forks_from (0 + suc c) (others (late_lane n))) r ∙ forks_raised 0 (suc c) (others (late_lane n)) r f found))
 
@@ -241,9 +242,9 @@ module _ (k c span : ℕ) (logs others : Logs) (cut : IsCut k c span logs others
       at (Where.root p o) =
           subst (λ (w : List Step). slice_get (forks (logs path)) (cut_number k others w r) ≡ Some (raised f (cut_offset k c w))) (sym o)
           (subst (λ (w : List Step). slice_get (forks (logs w)) (undouble k r) ≡ Some (raised f 0)) (sym p)
-          (subst (λ (fs : List Fork). slice_get fs (undouble k r) ≡ Some (raised f 0)) (sym root_forks)
+          (subst (λ (fs : List ForkPlace). slice_get fs (undouble k r) ≡ Some (raised f 0)) (sym root_forks)
           (subst (λ (i : ℕ). slice_get (fore ++ doubled ∷ hind) (undouble i r) ≡ Some (raised f 0)) fore_length
-          (undoubled fore hind doubled f r (subst (λ (fs : List Fork). slice_get fs r ≡ Some f) new_forks (subst (λ (w : List Step). slice_get (forks (others w)) r ≡ Some f) o found)) ∙ ap Some (not_raised f)))))
+          (undoubled fore hind doubled f r (subst (λ (fs : List ForkPlace). slice_get fs r ≡ Some f) new_forks (subst (λ (w : List Step). slice_get (forks (others w)) r ≡ Some f) o found)) ∙ ap Some (not_raised f)))))
       at (Where.early n within p o) =
           let number : cut_number k others (early_lane n) r ≡ r = rw (not_next k) refl in
           let offset : cut_offset k c (early_lane n) ≡ 0 = rw (not_next k) refl in

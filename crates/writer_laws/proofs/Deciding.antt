@@ -19,7 +19,7 @@ use Rattle.counted_order.specs.Parting.{PartInLanes}
 use Rattle.counted_order.proofs.Above.{HangsFrom, split}
 use Rattle.counted_order.proofs.Parted.{level}
 use Rattle.counted_order.proofs.Paths.{hangs_path, unordered_parts, parts_unordered}
-use Rattle.writer_laws.specs.Places.{Fork, forks}
+use Rattle.writer_laws.specs.Places.{ForkPlace, forks}
 use Rattle.writer_laws.proofs.Ends.{NoEnd, ends_here, ends_later}
 use Rattle.writer_laws.proofs.Numbers.{same_number, number_is, number_not}
 use Rattle.writer_laws.proofs.Forks.{fork_listed, find_fork}
@@ -102,7 +102,7 @@ back_push s [] step = refl
 back_push s (t ∷ path) step = back_push t path step
 
 -- a task was forked
-abbrev has_lane : Option Fork → Step → Bool
+abbrev has_lane : Option ForkPlace → Step → Bool
 has_lane None step = false
 has_lane (Some f) step = (f.span == step.span) && ((suc step.lane - step.span) == 0)
 
@@ -113,7 +113,7 @@ was_forked logs (s ∷ path) = has_lane (slice_get (forks (logs (front (s ∷ pa
 forked_by : (logs : Logs) (path : List Step) (step : Step) → has_lane (slice_get (forks (logs path)) step.region) step ≡ true → WasForked logs path step
 forked_by logs path step is = at (slice_get (forks (logs path)) step.region) refl is
   where
-    at : (o : Option Fork) → slice_get (forks (logs path)) step.region ≡ o → has_lane o step ≡ true → WasForked logs path step
+    at : (o : Option ForkPlace) → slice_get (forks (logs path)) step.region ≡ o → has_lane o step ≡ true → WasForked logs path step
     at None found is = cc
     at (Some f) found is =
         let both = and_parts (f.span == step.span) ((suc step.lane - step.span) == 0) is in
@@ -152,7 +152,7 @@ is_team logs path region span zero = true
 is_team logs path region span (suc n) =
     begun (logs (lane_of path region n span)) && (barrier_count (logs (lane_of path region n span)) == barrier_count (logs (lane_of path region 0 span))) && is_team logs path region span n
 
-abbrev are_teams : Logs → List Step → ℕ → List Fork → Bool
+abbrev are_teams : Logs → List Step → ℕ → List ForkPlace → Bool
 are_teams logs path region [] = true
 are_teams logs path region (f ∷ fs) = is_team logs path region f.span f.span && are_teams logs path (suc region) fs
 
@@ -178,14 +178,14 @@ lane_by logs path region span (suc n) m is less =
     })
     at (inr other) some level rest = rest (omega arith)
 
-team_by : (logs : Logs) (path : List Step) (region : ℕ) (fs : List Fork) → are_teams logs path region fs ≡ true → (i : ℕ) (f : Fork) → slice_get fs i ≡ Some f
+team_by : (logs : Logs) (path : List Step) (region : ℕ) (fs : List ForkPlace) → are_teams logs path region fs ≡ true → (i : ℕ) (f : ForkPlace) → slice_get fs i ≡ Some f
     → (number : ℕ) → number ≡ region + i → is_team logs path number f.span f.span ≡ true
 team_by logs path region [] is i f found number at = cc
 team_by logs path region (g ∷ fs) is zero f found number at =
     let both = and_parts (is_team logs path region g.span g.span) (are_teams logs path (suc region) fs) is in
     let same : g ≡ f = cc in
     let place : region ≡ number = omega arith in
-    subst (λ (h : Fork). is_team logs path number h.span h.span ≡ true) same (subst (λ (n : ℕ). is_team logs path n g.span g.span ≡ true) place both.0)
+    subst (λ (h : ForkPlace). is_team logs path number h.span h.span ≡ true) same (subst (λ (n : ℕ). is_team logs path n g.span g.span ≡ true) place both.0)
 team_by logs path region (g ∷ fs) is (suc i) f found number at =
     team_by logs path (suc region) fs (and_parts (is_team logs path region g.span g.span) (are_teams logs path (suc region) fs) is).1 i f found number (omega arith)
 
@@ -250,7 +250,7 @@ module _ (trace : Trace) (is : is_fork_join trace ≡ true) where
   forked_by_run = fork_join_by.tasks.forked
 
 -- the barriers that a record, or the Region through which it hangs, comes after in the lane below a level
-abbrev pub fork_barriers : Option Fork → ℕ
+abbrev pub fork_barriers : Option ForkPlace → ℕ
 fork_barriers None = 0
 fork_barriers (Some f) = f.barriers
 

@@ -5,7 +5,7 @@ use Rattle.log_format.specs.declared.record.Record.{Record}
 use Rattle.log_format.specs.declared.record.Kind.TheVariants.{Read, Write, Lock, Unlock, Barrier, End}
 use Rattle.race_model.specs.Trace.{Trace, Node, logs_of, record_at}
 use Rattle.race_model.specs.Race.{IsAccess}
-use Rattle.writer_laws.specs.Cases.{Premise, Meets, HasAllBut, DropsAllBut, LosesWithout, access, of_mutex, mark, lane, two_lanes, all_but}
+use Rattle.writer_laws.specs.Cases.{Premise, IsMet, HasAllBut, DropsAllBut, LosesWithout, plain_access, of_mutex, mark_of_kind, lane, two_lanes, all_but}
 use Rattle.writer_laws.proofs.Computed.{AreKept, kept_logs, left_out, no_mutex, part_at_once, pair_of, loses}
 
 -- one access is left out of a run, and another one is kept for it
@@ -26,12 +26,12 @@ abbrev node : ℕ → ℕ → Node
 node n index = record { path = lane 0 n; index = index }
 
 abbrev task_run : Trace
-task_run = two_lanes (access Write 5 100 0 ∷ mark End ∷ []) (access Write 5 100 0 ∷ mark End ∷ [])
+task_run = two_lanes (plain_access Write 5 100 0 ∷ mark_of_kind End ∷ []) (plain_access Write 5 100 0 ∷ mark_of_kind End ∷ [])
 
 abbrev task_dropped : Trace
-task_dropped = two_lanes (mark End ∷ []) (access Write 5 100 0 ∷ mark End ∷ [])
+task_dropped = two_lanes (mark_of_kind End ∷ []) (plain_access Write 5 100 0 ∷ mark_of_kind End ∷ [])
 
-task_meets : (q : Premise) → (q ≡ Premise.OfTask → ⊥) → Meets q (logs_of task_run) (node 0 0) (access Write 5 100 0) (node 1 0) (access Write 5 100 0)
+task_meets : (q : Premise) → (q ≡ Premise.OfTask → ⊥) → IsMet q (logs_of task_run) (node 0 0) (plain_access Write 5 100 0) (node 1 0) (plain_access Write 5 100 0)
 task_meets Premise.OfTask other = absurd (other refl)
 task_meets Premise.BetweenBarriers other = refl
 task_meets Premise.OfLine other = refl
@@ -44,21 +44,21 @@ task_loses = record {
   keep = all_but (lane 0 0) 0;
   logs = logs_of task_run;
   others = logs_of task_dropped;
-  drops = drops_one Premise.OfTask task_run task_dropped (node 0 0) (access Write 5 100 0) (refl, refl, (refl, refl, (refl, refl, tt))) refl (inr (inl refl))
-      (record { place = node 1 0; event = access Write 5 100 0; found = refl; in_it = refl; meets = task_meets });
+  drops = drops_one Premise.OfTask task_run task_dropped (node 0 0) (plain_access Write 5 100 0) (refl, refl, (refl, refl, (refl, refl, tt))) refl (inr (inl refl))
+      (record { place = node 1 0; event = plain_access Write 5 100 0; found = refl; in_it = refl; meets = task_meets });
   loses = loses task_run task_dropped (5, 5) refl refl
-      (pair_of task_run (node 0 0) (node 1 0) (access Write 5 100 0) (access Write 5 100 0) 0 refl refl refl (inr (inl refl)) (inr (inl refl)) (part_at_once 0 0 1 2 [] [] (λ e. omega arith)) refl
+      (pair_of task_run (node 0 0) (node 1 0) (plain_access Write 5 100 0) (plain_access Write 5 100 0) 0 refl refl refl (inr (inl refl)) (inr (inl refl)) (part_at_once 0 0 1 2 [] [] (λ e. omega arith)) refl
       (100, record { from_start = omega arith; to_end = omega arith }, record { from_start = omega arith; to_end = omega arith }) (inl (inl refl)) (λ mine yours. cc) (λ m mine yours. no_mutex m mine))
       refl;
 }
 
 abbrev barriers_run : Trace
-barriers_run = two_lanes (access Write 5 100 0 ∷ mark Barrier ∷ access Write 5 100 0 ∷ mark End ∷ []) (mark Barrier ∷ access Read 7 100 0 ∷ mark End ∷ [])
+barriers_run = two_lanes (plain_access Write 5 100 0 ∷ mark_of_kind Barrier ∷ plain_access Write 5 100 0 ∷ mark_of_kind End ∷ []) (mark_of_kind Barrier ∷ plain_access Read 7 100 0 ∷ mark_of_kind End ∷ [])
 
 abbrev barriers_dropped : Trace
-barriers_dropped = two_lanes (access Write 5 100 0 ∷ mark Barrier ∷ mark End ∷ []) (mark Barrier ∷ access Read 7 100 0 ∷ mark End ∷ [])
+barriers_dropped = two_lanes (plain_access Write 5 100 0 ∷ mark_of_kind Barrier ∷ mark_of_kind End ∷ []) (mark_of_kind Barrier ∷ plain_access Read 7 100 0 ∷ mark_of_kind End ∷ [])
 
-barriers_meets : (q : Premise) → (q ≡ Premise.BetweenBarriers → ⊥) → Meets q (logs_of barriers_run) (node 0 2) (access Write 5 100 0) (node 0 0) (access Write 5 100 0)
+barriers_meets : (q : Premise) → (q ≡ Premise.BetweenBarriers → ⊥) → IsMet q (logs_of barriers_run) (node 0 2) (plain_access Write 5 100 0) (node 0 0) (plain_access Write 5 100 0)
 barriers_meets Premise.OfTask other = refl
 barriers_meets Premise.BetweenBarriers other = absurd (other refl)
 barriers_meets Premise.OfLine other = refl
@@ -71,21 +71,21 @@ barriers_loses = record {
   keep = all_but (lane 0 0) 2;
   logs = logs_of barriers_run;
   others = logs_of barriers_dropped;
-  drops = drops_one Premise.BetweenBarriers barriers_run barriers_dropped (node 0 2) (access Write 5 100 0) (refl, refl, (refl, refl, (refl, refl, tt))) refl (inr (inl refl))
-      (record { place = node 0 0; event = access Write 5 100 0; found = refl; in_it = refl; meets = barriers_meets });
+  drops = drops_one Premise.BetweenBarriers barriers_run barriers_dropped (node 0 2) (plain_access Write 5 100 0) (refl, refl, (refl, refl, (refl, refl, tt))) refl (inr (inl refl))
+      (record { place = node 0 0; event = plain_access Write 5 100 0; found = refl; in_it = refl; meets = barriers_meets });
   loses = loses barriers_run barriers_dropped (5, 7) refl refl
-      (pair_of barriers_run (node 0 2) (node 1 1) (access Write 5 100 0) (access Read 7 100 0) 0 refl refl refl (inr (inl refl)) (inl refl) (part_at_once 0 0 1 2 [] [] (λ e. omega arith)) refl
+      (pair_of barriers_run (node 0 2) (node 1 1) (plain_access Write 5 100 0) (plain_access Read 7 100 0) 0 refl refl refl (inr (inl refl)) (inl refl) (part_at_once 0 0 1 2 [] [] (λ e. omega arith)) refl
       (100, record { from_start = omega arith; to_end = omega arith }, record { from_start = omega arith; to_end = omega arith }) (inl (inl refl)) (λ mine yours. cc) (λ m mine yours. no_mutex m mine))
       refl;
 }
 
 abbrev line_run : Trace
-line_run = two_lanes (access Write 5 100 0 ∷ access Write 6 100 0 ∷ mark End ∷ []) (access Read 7 100 0 ∷ mark End ∷ [])
+line_run = two_lanes (plain_access Write 5 100 0 ∷ plain_access Write 6 100 0 ∷ mark_of_kind End ∷ []) (plain_access Read 7 100 0 ∷ mark_of_kind End ∷ [])
 
 abbrev line_dropped : Trace
-line_dropped = two_lanes (access Write 5 100 0 ∷ mark End ∷ []) (access Read 7 100 0 ∷ mark End ∷ [])
+line_dropped = two_lanes (plain_access Write 5 100 0 ∷ mark_of_kind End ∷ []) (plain_access Read 7 100 0 ∷ mark_of_kind End ∷ [])
 
-line_meets : (q : Premise) → (q ≡ Premise.OfLine → ⊥) → Meets q (logs_of line_run) (node 0 1) (access Write 6 100 0) (node 0 0) (access Write 5 100 0)
+line_meets : (q : Premise) → (q ≡ Premise.OfLine → ⊥) → IsMet q (logs_of line_run) (node 0 1) (plain_access Write 6 100 0) (node 0 0) (plain_access Write 5 100 0)
 line_meets Premise.OfTask other = refl
 line_meets Premise.BetweenBarriers other = refl
 line_meets Premise.OfLine other = absurd (other refl)
@@ -98,21 +98,21 @@ line_loses = record {
   keep = all_but (lane 0 0) 1;
   logs = logs_of line_run;
   others = logs_of line_dropped;
-  drops = drops_one Premise.OfLine line_run line_dropped (node 0 1) (access Write 6 100 0) (refl, refl, (refl, refl, (refl, refl, tt))) refl (inr (inl refl))
-      (record { place = node 0 0; event = access Write 5 100 0; found = refl; in_it = refl; meets = line_meets });
+  drops = drops_one Premise.OfLine line_run line_dropped (node 0 1) (plain_access Write 6 100 0) (refl, refl, (refl, refl, (refl, refl, tt))) refl (inr (inl refl))
+      (record { place = node 0 0; event = plain_access Write 5 100 0; found = refl; in_it = refl; meets = line_meets });
   loses = loses line_run line_dropped (6, 7) refl refl
-      (pair_of line_run (node 0 1) (node 1 0) (access Write 6 100 0) (access Read 7 100 0) 0 refl refl refl (inr (inl refl)) (inl refl) (part_at_once 0 0 1 2 [] [] (λ e. omega arith)) refl
+      (pair_of line_run (node 0 1) (node 1 0) (plain_access Write 6 100 0) (plain_access Read 7 100 0) 0 refl refl refl (inr (inl refl)) (inl refl) (part_at_once 0 0 1 2 [] [] (λ e. omega arith)) refl
       (100, record { from_start = omega arith; to_end = omega arith }, record { from_start = omega arith; to_end = omega arith }) (inl (inl refl)) (λ mine yours. cc) (λ m mine yours. no_mutex m mine))
       refl;
 }
 
 abbrev bytes_run : Trace
-bytes_run = two_lanes (access Write 5 100 0 ∷ access Write 5 108 0 ∷ mark End ∷ []) (access Read 7 108 0 ∷ mark End ∷ [])
+bytes_run = two_lanes (plain_access Write 5 100 0 ∷ plain_access Write 5 108 0 ∷ mark_of_kind End ∷ []) (plain_access Read 7 108 0 ∷ mark_of_kind End ∷ [])
 
 abbrev bytes_dropped : Trace
-bytes_dropped = two_lanes (access Write 5 100 0 ∷ mark End ∷ []) (access Read 7 108 0 ∷ mark End ∷ [])
+bytes_dropped = two_lanes (plain_access Write 5 100 0 ∷ mark_of_kind End ∷ []) (plain_access Read 7 108 0 ∷ mark_of_kind End ∷ [])
 
-bytes_meets : (q : Premise) → (q ≡ Premise.OfBytes → ⊥) → Meets q (logs_of bytes_run) (node 0 1) (access Write 5 108 0) (node 0 0) (access Write 5 100 0)
+bytes_meets : (q : Premise) → (q ≡ Premise.OfBytes → ⊥) → IsMet q (logs_of bytes_run) (node 0 1) (plain_access Write 5 108 0) (node 0 0) (plain_access Write 5 100 0)
 bytes_meets Premise.OfTask other = refl
 bytes_meets Premise.BetweenBarriers other = refl
 bytes_meets Premise.OfLine other = refl
@@ -125,21 +125,21 @@ bytes_loses = record {
   keep = all_but (lane 0 0) 1;
   logs = logs_of bytes_run;
   others = logs_of bytes_dropped;
-  drops = drops_one Premise.OfBytes bytes_run bytes_dropped (node 0 1) (access Write 5 108 0) (refl, refl, (refl, refl, (refl, refl, tt))) refl (inr (inl refl))
-      (record { place = node 0 0; event = access Write 5 100 0; found = refl; in_it = refl; meets = bytes_meets });
+  drops = drops_one Premise.OfBytes bytes_run bytes_dropped (node 0 1) (plain_access Write 5 108 0) (refl, refl, (refl, refl, (refl, refl, tt))) refl (inr (inl refl))
+      (record { place = node 0 0; event = plain_access Write 5 100 0; found = refl; in_it = refl; meets = bytes_meets });
   loses = loses bytes_run bytes_dropped (5, 7) refl refl
-      (pair_of bytes_run (node 0 1) (node 1 0) (access Write 5 108 0) (access Read 7 108 0) 0 refl refl refl (inr (inl refl)) (inl refl) (part_at_once 0 0 1 2 [] [] (λ e. omega arith)) refl
+      (pair_of bytes_run (node 0 1) (node 1 0) (plain_access Write 5 108 0) (plain_access Read 7 108 0) 0 refl refl refl (inr (inl refl)) (inl refl) (part_at_once 0 0 1 2 [] [] (λ e. omega arith)) refl
       (108, record { from_start = omega arith; to_end = omega arith }, record { from_start = omega arith; to_end = omega arith }) (inl (inl refl)) (λ mine yours. cc) (λ m mine yours. no_mutex m mine))
       refl;
 }
 
 abbrev kind_run : Trace
-kind_run = two_lanes (access Read 5 100 0 ∷ access Write 5 100 0 ∷ mark End ∷ []) (access Read 7 100 0 ∷ mark End ∷ [])
+kind_run = two_lanes (plain_access Read 5 100 0 ∷ plain_access Write 5 100 0 ∷ mark_of_kind End ∷ []) (plain_access Read 7 100 0 ∷ mark_of_kind End ∷ [])
 
 abbrev kind_dropped : Trace
-kind_dropped = two_lanes (access Read 5 100 0 ∷ mark End ∷ []) (access Read 7 100 0 ∷ mark End ∷ [])
+kind_dropped = two_lanes (plain_access Read 5 100 0 ∷ mark_of_kind End ∷ []) (plain_access Read 7 100 0 ∷ mark_of_kind End ∷ [])
 
-kind_meets : (q : Premise) → (q ≡ Premise.OfKind → ⊥) → Meets q (logs_of kind_run) (node 0 1) (access Write 5 100 0) (node 0 0) (access Read 5 100 0)
+kind_meets : (q : Premise) → (q ≡ Premise.OfKind → ⊥) → IsMet q (logs_of kind_run) (node 0 1) (plain_access Write 5 100 0) (node 0 0) (plain_access Read 5 100 0)
 kind_meets Premise.OfTask other = refl
 kind_meets Premise.BetweenBarriers other = refl
 kind_meets Premise.OfLine other = refl
@@ -152,21 +152,21 @@ kind_loses = record {
   keep = all_but (lane 0 0) 1;
   logs = logs_of kind_run;
   others = logs_of kind_dropped;
-  drops = drops_one Premise.OfKind kind_run kind_dropped (node 0 1) (access Write 5 100 0) (refl, refl, (refl, refl, (refl, refl, tt))) refl (inr (inl refl))
-      (record { place = node 0 0; event = access Read 5 100 0; found = refl; in_it = refl; meets = kind_meets });
+  drops = drops_one Premise.OfKind kind_run kind_dropped (node 0 1) (plain_access Write 5 100 0) (refl, refl, (refl, refl, (refl, refl, tt))) refl (inr (inl refl))
+      (record { place = node 0 0; event = plain_access Read 5 100 0; found = refl; in_it = refl; meets = kind_meets });
   loses = loses kind_run kind_dropped (5, 7) refl refl
-      (pair_of kind_run (node 0 1) (node 1 0) (access Write 5 100 0) (access Read 7 100 0) 0 refl refl refl (inr (inl refl)) (inl refl) (part_at_once 0 0 1 2 [] [] (λ e. omega arith)) refl
+      (pair_of kind_run (node 0 1) (node 1 0) (plain_access Write 5 100 0) (plain_access Read 7 100 0) 0 refl refl refl (inr (inl refl)) (inl refl) (part_at_once 0 0 1 2 [] [] (λ e. omega arith)) refl
       (100, record { from_start = omega arith; to_end = omega arith }, record { from_start = omega arith; to_end = omega arith }) (inl (inl refl)) (λ mine yours. cc) (λ m mine yours. no_mutex m mine))
       refl;
 }
 
 abbrev mutexes_run : Trace
-mutexes_run = two_lanes (of_mutex Lock 1 ∷ access Write 5 100 0 ∷ of_mutex Unlock 1 ∷ access Write 5 100 0 ∷ mark End ∷ []) (of_mutex Lock 1 ∷ access Read 7 100 0 ∷ of_mutex Unlock 1 ∷ mark End ∷ [])
+mutexes_run = two_lanes (of_mutex Lock 1 ∷ plain_access Write 5 100 0 ∷ of_mutex Unlock 1 ∷ plain_access Write 5 100 0 ∷ mark_of_kind End ∷ []) (of_mutex Lock 1 ∷ plain_access Read 7 100 0 ∷ of_mutex Unlock 1 ∷ mark_of_kind End ∷ [])
 
 abbrev mutexes_dropped : Trace
-mutexes_dropped = two_lanes (of_mutex Lock 1 ∷ access Write 5 100 0 ∷ of_mutex Unlock 1 ∷ mark End ∷ []) (of_mutex Lock 1 ∷ access Read 7 100 0 ∷ of_mutex Unlock 1 ∷ mark End ∷ [])
+mutexes_dropped = two_lanes (of_mutex Lock 1 ∷ plain_access Write 5 100 0 ∷ of_mutex Unlock 1 ∷ mark_of_kind End ∷ []) (of_mutex Lock 1 ∷ plain_access Read 7 100 0 ∷ of_mutex Unlock 1 ∷ mark_of_kind End ∷ [])
 
-mutexes_meets : (q : Premise) → (q ≡ Premise.UnderMutexes → ⊥) → Meets q (logs_of mutexes_run) (node 0 3) (access Write 5 100 0) (node 0 1) (access Write 5 100 0)
+mutexes_meets : (q : Premise) → (q ≡ Premise.UnderMutexes → ⊥) → IsMet q (logs_of mutexes_run) (node 0 3) (plain_access Write 5 100 0) (node 0 1) (plain_access Write 5 100 0)
 mutexes_meets Premise.OfTask other = refl
 mutexes_meets Premise.BetweenBarriers other = refl
 mutexes_meets Premise.OfLine other = refl
@@ -179,10 +179,10 @@ mutexes_loses = record {
   keep = all_but (lane 0 0) 3;
   logs = logs_of mutexes_run;
   others = logs_of mutexes_dropped;
-  drops = drops_one Premise.UnderMutexes mutexes_run mutexes_dropped (node 0 3) (access Write 5 100 0) (refl, refl, (refl, refl, (refl, refl, tt))) refl (inr (inl refl))
-      (record { place = node 0 1; event = access Write 5 100 0; found = refl; in_it = refl; meets = mutexes_meets });
+  drops = drops_one Premise.UnderMutexes mutexes_run mutexes_dropped (node 0 3) (plain_access Write 5 100 0) (refl, refl, (refl, refl, (refl, refl, tt))) refl (inr (inl refl))
+      (record { place = node 0 1; event = plain_access Write 5 100 0; found = refl; in_it = refl; meets = mutexes_meets });
   loses = loses mutexes_run mutexes_dropped (5, 7) refl refl
-      (pair_of mutexes_run (node 0 3) (node 1 1) (access Write 5 100 0) (access Read 7 100 0) 0 refl refl refl (inr (inl refl)) (inl refl) (part_at_once 0 0 1 2 [] [] (λ e. omega arith)) refl
+      (pair_of mutexes_run (node 0 3) (node 1 1) (plain_access Write 5 100 0) (plain_access Read 7 100 0) 0 refl refl refl (inr (inl refl)) (inl refl) (part_at_once 0 0 1 2 [] [] (λ e. omega arith)) refl
       (100, record { from_start = omega arith; to_end = omega arith }, record { from_start = omega arith; to_end = omega arith }) (inl (inl refl)) (λ mine yours. cc) (λ m mine yours. no_mutex m mine))
       refl;
 }

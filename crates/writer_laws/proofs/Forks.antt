@@ -7,7 +7,7 @@ use Rattle.log_format.specs.declared.record.Kind.{Kind}
 use Rattle.log_format.specs.declared.record.Kind.TheVariants.{Region}
 use Rattle.race_model.specs.Trace.{is_region_kind, is_barrier_kind, region_count, barrier_count}
 use Rattle.race_laws.proofs.Counts.{region_from_true}
-use Rattle.writer_laws.specs.Places.{Fork, forks_from}
+use Rattle.writer_laws.specs.Places.{ForkPlace, forks_from}
 
 pub region_step : (r : Record) (records : List Record) → region_count (r ∷ records) ≡ cond (is_region_kind r.kind) 1 0 + region_count records
 region_step r records = sum_by-cons (λ (s : Record). cond (is_region_kind s.kind) 1 0) r records
@@ -27,7 +27,7 @@ behind false x rest n m e =
     let same : n ≡ m = omega arith in
     subst (λ (k : ℕ). slice_get rest k ≡ slice_get rest n) same refl
 
-abbrev fork : ℕ → ℕ → Fork
+abbrev fork : ℕ → ℕ → ForkPlace
 fork span barriers = record { span = span; barriers = barriers }
 
 -- a Region record is a fork of the log
@@ -51,7 +51,7 @@ fork_listed b (s ∷ records) (suc i) r found region =
     ∙ ap (λ (n : ℕ). Some (fork r.value n)) (let step = barrier_step s (take i records) in omega arith))
 
 -- the Region record of a fork
-pub record HasFork (b : ℕ) (records : List Record) (number : ℕ) (f : Fork) : Type 0 where
+pub record HasFork (b : ℕ) (records : List Record) (number : ℕ) (f : ForkPlace) : Type 0 where
   pub index : ℕ
   pub event : Record
   pub found : slice_get records index ≡ Some event
@@ -60,7 +60,7 @@ pub record HasFork (b : ℕ) (records : List Record) (number : ℕ) (f : Fork) :
   pub number_is : region_count (take index records) ≡ number
   pub barriers_are : b + barrier_count (take index records) ≡ f.barriers
 
-one_later : (b : ℕ) (s : Record) (records : List Record) (k n : ℕ) (f : Fork) → n ≡ cond (is_region_kind s.kind) 1 0 + k
+one_later : (b : ℕ) (s : Record) (records : List Record) (k n : ℕ) (f : ForkPlace) → n ≡ cond (is_region_kind s.kind) 1 0 + k
     → HasFork (b + cond (is_barrier_kind s.kind) 1 0) records k f → HasFork b (s ∷ records) n f
 one_later b s records k n f e h = record {
   index = suc h.index;
@@ -72,16 +72,16 @@ one_later b s records k n f e h = record {
   barriers_are = let step = barrier_step s (take h.index records) in let are = h.barriers_are in omega arith;
 }
 
-pub find_fork : (b : ℕ) (records : List Record) (k : ℕ) (f : Fork) → slice_get (forks_from b records) k ≡ Some f → HasFork b records k f
+pub find_fork : (b : ℕ) (records : List Record) (k : ℕ) (f : ForkPlace) → slice_get (forks_from b records) k ≡ Some f → HasFork b records k f
 find_fork b [] k f found = cc
 find_fork b (s ∷ records) k f found = at (is_region_kind s.kind) refl k found (find_fork (b + cond (is_barrier_kind s.kind) 1 0) records)
   where
-    rest : List Fork
+    rest : List ForkPlace
     rest = forks_from (b + cond (is_barrier_kind s.kind) 1 0) records
 
     at : (p : Bool) → is_region_kind s.kind ≡ p → (n : ℕ)
         → slice_get (cond p (fork s.value b ∷ forks_from (b + cond (is_barrier_kind s.kind) 1 0) records) (forks_from (b + cond (is_barrier_kind s.kind) 1 0) records)) n ≡ Some f
-        → ((m : ℕ) (g : Fork) → slice_get (forks_from (b + cond (is_barrier_kind s.kind) 1 0) records) m ≡ Some g → HasFork (b + cond (is_barrier_kind s.kind) 1 0) records m g)
+        → ((m : ℕ) (g : ForkPlace) → slice_get (forks_from (b + cond (is_barrier_kind s.kind) 1 0) records) m ≡ Some g → HasFork (b + cond (is_barrier_kind s.kind) 1 0) records m g)
         → HasFork b (s ∷ records) n f
     at true is zero here more =
         let same : fork s.value b ≡ f = cc in
@@ -90,9 +90,9 @@ find_fork b (s ∷ records) k f found = at (is_region_kind s.kind) refl k found 
           event = s;
           found = refl;
           region = region_from_true s.kind is;
-          spans = ap (λ (g : Fork). g.span) same;
+          spans = ap (λ (g : ForkPlace). g.span) same;
           number_is = refl;
-          barriers_are = (let none : b + 0 ≡ b = omega arith in none) ∙ ap (λ (g : Fork). g.barriers) same;
+          barriers_are = (let none : b + 0 ≡ b = omega arith in none) ∙ ap (λ (g : ForkPlace). g.barriers) same;
         }
     at true is (suc n) here more =
         let one : cond {A = ℕ} (is_region_kind s.kind) 1 0 ≡ 1 = rw is refl in

@@ -10,7 +10,7 @@ use Rattle.log_format.specs.declared.record.Kind.TheVariants.{Read, Write, Lock,
 use Rattle.race_model.specs.Trace.{Logs, Node, record_at, is_region_kind, is_barrier_kind, barrier_count}
 use Rattle.race_model.specs.Race.{IsAccess, IsRacePair, held_after, held_after_kind}
 use Rattle.race_model.specs.ForkJoin.{IsForkJoin, IsTask, EndsOnce}
-use Rattle.writer_laws.specs.Places.{Fork, forks_from, with_fork, ForkAlike, IsAtPlace}
+use Rattle.writer_laws.specs.Places.{ForkPlace, forks_from, with_fork, ForkAlike, IsAtPlace}
 use Rattle.writer_laws.specs.StandIns.{HasStandIn, IsReplaced}
 use Rattle.writer_laws.specs.Guards.{Guarded, is_mutex_kind, guarded, guarded_from, AreGuardedAlike, DifferInLocks}
 use Rattle.writer_laws.proofs.Forks.{barrier_step}
@@ -49,7 +49,7 @@ abbrev barriers_of : List Guarded → ℕ
 barriers_of [] = 0
 barriers_of (g ∷ guards) = cond (is_barrier_kind g.event.kind) 1 0 + barriers_of guards
 
-abbrev forks_of : ℕ → List Guarded → List Fork
+abbrev forks_of : ℕ → List Guarded → List ForkPlace
 forks_of b [] = []
 forks_of b (g ∷ guards) = with_fork g.event b (forks_of (b + cond (is_barrier_kind g.event.kind) 1 0) guards)
 
@@ -175,14 +175,14 @@ forks_listed b held (s ∷ records) = at (is_mutex_kind s.kind) refl (λ n. fork
         let skip : forks_from b (s ∷ records) ≡ forks_from (b + cond (is_barrier_kind s.kind) 1 0) records = rw idle.no_region refl in
         skip ∙ (ap (λ (n : ℕ). forks_from n records) none ∙ (more b ∙ ap (forks_of b) (sym (mutex_here held s records is))))
     at false is more =
-        ap (λ (fs : List Fork). with_fork s b fs) (more (b + cond (is_barrier_kind s.kind) 1 0)) ∙ ap (forks_of b) (sym (other_here held s records is))
+        ap (λ (fs : List ForkPlace). with_fork s b fs) (more (b + cond (is_barrier_kind s.kind) 1 0)) ∙ ap (forks_of b) (sym (other_here held s records is))
 
 forks_alike : (b : ℕ) (guards others : List Guarded) → AreGuardedAlike guards others → forks_of b guards ≡ forks_of b others
 forks_alike b [] [] same = refl
 forks_alike b [] (h ∷ others) same = absurd same
 forks_alike b (g ∷ guards) [] same = absurd same
 forks_alike b (g ∷ guards) (h ∷ others) same =
-    ap (λ (fs : List Fork). with_fork g.event b fs) (forks_alike (b + cond (is_barrier_kind g.event.kind) 1 0) guards others same.2)
+    ap (λ (fs : List ForkPlace). with_fork g.event b fs) (forks_alike (b + cond (is_barrier_kind g.event.kind) 1 0) guards others same.2)
     ∙ ap (λ (r : Record). with_fork r b (forks_of (b + cond (is_barrier_kind r.kind) 1 0) others)) same.0
 
 barriers_listed : (held : List ℕ) (records : List Record) → barrier_count records ≡ barriers_of (guarded_from held records)

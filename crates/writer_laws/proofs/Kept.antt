@@ -6,7 +6,7 @@ use Rattle.log_format.specs.declared.record.Kind.{Kind}
 use Rattle.log_format.specs.declared.record.Kind.TheVariants.{Read, Write, Update}
 use Rattle.race_model.specs.Trace.{is_region_kind, is_barrier_kind, barrier_count}
 use Rattle.race_model.specs.Race.{IsAccess, held_after, held_after_kind}
-use Rattle.writer_laws.specs.Places.{Fork, forks_from}
+use Rattle.writer_laws.specs.Places.{ForkPlace, forks_from}
 use Rattle.writer_laws.specs.Dropping.{only_kept}
 use Rattle.writer_laws.proofs.Forks.{barrier_step}
 
@@ -137,14 +137,14 @@ pub forks_kept : (b : ℕ) (keep : ℕ → Bool) (records : List Record) → Lea
 forks_kept b keep [] leaves = refl
 forks_kept b keep (s ∷ records) leaves = at (keep 0) refl (λ c. forks_kept c (λ n. keep (suc n)) records (rest keep s records leaves))
   where
-    fork : Fork
+    fork : ForkPlace
     fork = record { span = s.value; barriers = b }
 
     at : (p : Bool) → keep 0 ≡ p → ((c : ℕ) → forks_from c records ≡ forks_from c (only_kept (λ n. keep (suc n)) records))
         → forks_from b (s ∷ records) ≡ forks_from b (only_kept keep (s ∷ records))
     at true is more =
         let here : only_kept keep (s ∷ records) ≡ s ∷ only_kept (λ n. keep (suc n)) records = rw is refl in
-        ap (λ (fs : List Fork). cond (is_region_kind s.kind) (record { span = s.value; barriers = b } ∷ fs) fs) (more (b + cond (is_barrier_kind s.kind) 1 0)) ∙ ap (forks_from b) (sym here)
+        ap (λ (fs : List ForkPlace). cond (is_region_kind s.kind) (record { span = s.value; barriers = b } ∷ fs) fs) (more (b + cond (is_barrier_kind s.kind) 1 0)) ∙ ap (forks_from b) (sym here)
     at false is more =
         let here : only_kept keep (s ∷ records) ≡ only_kept (λ n. keep (suc n)) records = rw is refl in
         let i = idle s (leaves 0 s refl is) in

@@ -32,7 +32,7 @@ use Rattle.race_laws.proofs.LabelPlace.{HasLast, has_last, not_both_empty}
 use Rattle.race_laws.proofs.Listed.{spans_listed}
 use Rattle.race_laws.proofs.ListedOnce.{logs_at}
 use Rattle.writer_laws.proofs.CutTasks.{region_within, regions_of_first, barriers_of_first}
-use Rattle.writer_laws.specs.Rules.{IsNested, AreNested, AreTabled}
+use Rattle.writer_laws.specs.Rules.{IsNestedRecord, AreNested, AreTabled}
 
 -- the records of the table, and their mutexes
 module _ {format : Format} (trace : Trace) (good : KeepsRules format trace) where
@@ -58,12 +58,12 @@ module _ {format : Format} (trace : Trace) (good : KeepsRules format trace) wher
   are_tabled x r found = let t = of_task x r found in all_at (IsTabled format) t.task.records x.index r t.keeps.tabled t.found
 
   pub are_nested : AreNested (logs_of trace)
-  are_nested x r found = subst (λ (records : List Record). IsNested (held_after [] (take x.index records)) r) t.records_are nested
+  are_nested x r found = subst (λ (records : List Record). IsNestedRecord (held_after [] (take x.index records)) r) t.records_are nested
     where
       t : IsOfTask x r
       t = of_task x r found
 
-      nested : IsNested (held_after [] (take x.index t.task.records)) r
+      nested : IsNestedRecord (held_after [] (take x.index t.task.records)) r
       nested = record {
         once = λ is holds. t.keeps.keeps x.index r t.found log.LockTwice (is, holds);
         limit = λ is deep. t.keeps.keeps x.index r t.found log.LocksDeep (is, deep);
@@ -215,7 +215,7 @@ module _ {format : Format} (trace : Trace) (tree : IsForkJoin (logs_of trace)) (
       → Breaks (record { path = path; records = length (logs_of trace path); spans = spans; due_barriers = d.due }) (take k (logs_of trace path)) r rule → ⊥
   breaks_none path spans lists d k r found rule breaks = at rule breaks
     where
-      is_nested : IsNested (held_after [] (take k (logs_of trace path))) r
+      is_nested : IsNestedRecord (held_after [] (take k (logs_of trace path))) r
       is_nested = nested (record { path = path; index = k }) r found
 
       place : length (take k (logs_of trace path)) ≡ k

@@ -16,7 +16,7 @@ use Rattle.race_model.specs.ForkJoin.{IsForkJoin, IsTask, EndsOnce, WasForked}
 use Rattle.race_model.proofs.TraceLogs.{record_there}
 use Rattle.race_laws.proofs.LabelPlace.{HasLast, has_last, not_both_empty, is_region, same_region}
 use Rattle.counted_order.proofs.Paths.{unordered_parts}
-use Rattle.writer_laws.specs.Places.{Fork, forks, forks_from}
+use Rattle.writer_laws.specs.Places.{ForkPlace, forks, forks_from}
 use Rattle.writer_laws.specs.Renumbering.{IsFrom, AreForked, ComesFrom, WereForks, KeepsTeams}
 use Rattle.writer_laws.specs.Splitting.{later_number, KeepsLogs, IsSplit}
 use Rattle.writer_laws.specs.StandIns.{HasStandIn, IsReplaced}
@@ -25,7 +25,8 @@ use Rattle.writer_laws.proofs.Forks.{fork_listed, find_fork, barrier_step}
 use Rattle.writer_laws.proofs.Renumbered.{was_region, was_lane, carried, carried_back}
 use Rattle.writer_laws.proofs.Origins.{HasOrigin, origin}
 use Rattle.writer_laws.proofs.Replaced.{covers_itself, pair_by, no_pair_lost}
-use Rattle.writer_laws.proofs.CutForks.{barriers_both, forks_both, forks_length, raised, some_fork, not_raised, no_fork}
+use Rattle.race_model.proofs.Counted.{barriers_both}
+use Rattle.writer_laws.proofs.CutForks.{forks_both, forks_length, raised, some_fork, not_raised, no_fork}
 use Rattle.writer_laws.proofs.Unordered.{root_ordered}
 
 -- no part begins in the middle of a task
@@ -43,7 +44,7 @@ under_more region (t ∷ path) step is deep = is
 
 -- a part: its regions of the root are some of the run's
 module _ (k : ℕ) (logs part : Logs) (tree : IsForkJoin logs) (root_ends : EndsOnce (part [])) (root_level : barrier_count (part []) ≡ 0) (part_forked : AreForked part) (tasks : KeepsLogs k logs part)
-    (regions : (r : ℕ) (f : Fork) → slice_get (forks (part [])) r ≡ Some f → slice_get (forks (logs [])) (r + k) ≡ Some f) where
+    (regions : (r : ℕ) (f : ForkPlace) → slice_get (forks (part [])) r ≡ Some f → slice_get (forks (logs [])) (r + k) ≡ Some f) where
   abbrev Comes : Node → Node → Type 0
   Comes x v = ComesFrom (later_number k) no_offset logs part x v
 
@@ -210,7 +211,7 @@ module _ (k : ℕ) (logs part : Logs) (tree : IsForkJoin logs) (root_ends : Ends
       IsFrom.lane x.path (lane_of beside (regions_before part fork) n s) above beside (regions_before part fork) n s up parts refl in
       record { other = lane_of beside (regions_before part fork) n s; from = from; same = tasks x.path (lane_of beside (regions_before part fork) n s) fork n s from lane }
 
-  parts_of : (region : ℕ) → ((f : Fork) → slice_get (forks (logs [])) (region + k) ≡ Some f → slice_get (forks (part [])) region ≡ Some f)
+  parts_of : (region : ℕ) → ((f : ForkPlace) → slice_get (forks (logs [])) (region + k) ≡ Some f → slice_get (forks (part [])) region ≡ Some f)
       → (d : ℕ) (x : Node) (r : Record) → length x.path < d → IsUnder (region + k) x.path → record_at logs x ≡ Some r → HasPart x r
   parts_of region has zero x r less under found = absurd (omega arith)
   parts_of region has (suc d) x r less under found = at (has_last x.path) (parts_of region has d)
@@ -224,7 +225,7 @@ module _ (k : ℕ) (logs part : Logs) (tree : IsForkJoin logs) (root_ends : Ends
           let number : regions_before logs f ≡ step.region =
           ap (λ (t : Step). t.region) (same_from_push f.path [] (record { region = regions_before logs f; lane = step.lane; span = step.span }) step (sym forked.lane.child)).1 in
           let is : step.region ≡ region + k = subst (λ (p : List Step). IsUnder (region + k) p) parts under in
-          let fork : Fork = record { span = step.span; barriers = 0 + barriers_before logs f } in
+          let fork : ForkPlace = record { span = step.span; barriers = 0 + barriers_before logs f } in
           let listed : slice_get (forks (logs [])) (region + k) ≡ Some (record { span = step.span; barriers = 0 + barriers_before logs f }) =
           subst (λ (q : ℕ). slice_get (forks (logs [])) q ≡ Some (record { span = step.span; barriers = 0 + barriers_before logs f })) (number ∙ is)
           (subst (λ (p : List Step). slice_get (forks (logs p)) (regions_before logs f) ≡ Some (record { span = step.span; barriers = 0 + barriers_before logs f })) forked.above
@@ -267,7 +268,7 @@ module _ (k : ℕ) (logs part : Logs) (tree : IsForkJoin logs) (root_ends : Ends
       at (inr l) rec = by l l.prefix refl rec
 
   -- a pair under one of the part's regions of the root is a pair of the part
-  pub part_pair : (region : ℕ) → ((f : Fork) → slice_get (forks (logs [])) (region + k) ≡ Some f → slice_get (forks (part [])) region ≡ Some f)
+  pub part_pair : (region : ℕ) → ((f : ForkPlace) → slice_get (forks (logs [])) (region + k) ≡ Some f → slice_get (forks (part [])) region ≡ Some f)
       → (pair : ℕ × ℕ) (p : IsRacePair logs pair) → IsUnder (region + k) p.x.path → IsUnder (region + k) p.y.path → IsRacePair part pair
   part_pair region has pair p mine yours = pair_by Comes logs part tree (carried (later_number k) no_offset logs part were_forks keeps_teams part_run) pair p
       (stands p.x p.r p.race.left (parts_of region has (suc (length p.x.path)) p.x p.r (omega arith) mine p.race.left))
@@ -304,7 +305,7 @@ share_region (a ∷ path) (b ∷ other) (suc level) step beside mine yours share
     record { region = a.region; mine = refl; yours = sym (ap (λ (t : Step). t.region) heads) }
 
 module _ (logs one two : Logs) (tree : IsForkJoin logs) (split : IsSplit logs one two) where
-  abbrev fore : List Fork
+  abbrev fore : List ForkPlace
   fore = forks split.before
 
   abbrev k : ℕ
@@ -322,37 +323,37 @@ module _ (logs one two : Logs) (tree : IsForkJoin logs) (split : IsSplit logs on
 
   one_forks : forks (one []) ≡ fore
   one_forks = ap forks split.first_root ∙ (forks_both 0 split.before (split.ended ∷ [])
-      ∙ (ap (λ (fs : List Fork). fore ++ fs) (no_fork (0 + barrier_count split.before) split.ended split.ends) ∙ append-nil fore))
+      ∙ (ap (λ (fs : List ForkPlace). fore ++ fs) (no_fork (0 + barrier_count split.before) split.ended split.ends) ∙ append-nil fore))
 
   two_forks : forks (two []) ≡ forks split.after
   two_forks = ap forks split.second_root
 
-  pub one_regions : (r : ℕ) (f : Fork) → slice_get (forks (one [])) r ≡ Some f → slice_get (forks (logs [])) (r + 0) ≡ Some f
+  pub one_regions : (r : ℕ) (f : ForkPlace) → slice_get (forks (one [])) r ≡ Some f → slice_get (forks (logs [])) (r + 0) ≡ Some f
   one_regions r f found =
       let place : r ≡ r + 0 = omega arith in
-      subst (λ (fs : List Fork). slice_get fs (r + 0) ≡ Some f) (sym root_forks)
-      (subst (λ (i : ℕ). slice_get (fore ++ forks split.after) i ≡ Some f) place (get_more fore (forks split.after) r f (subst (λ (fs : List Fork). slice_get fs r ≡ Some f) one_forks found)))
+      subst (λ (fs : List ForkPlace). slice_get fs (r + 0) ≡ Some f) (sym root_forks)
+      (subst (λ (i : ℕ). slice_get (fore ++ forks split.after) i ≡ Some f) place (get_more fore (forks split.after) r f (subst (λ (fs : List ForkPlace). slice_get fs r ≡ Some f) one_forks found)))
 
-  pub two_regions : (r : ℕ) (f : Fork) → slice_get (forks (two [])) r ≡ Some f → slice_get (forks (logs [])) (r + k) ≡ Some f
+  pub two_regions : (r : ℕ) (f : ForkPlace) → slice_get (forks (two [])) r ≡ Some f → slice_get (forks (logs [])) (r + k) ≡ Some f
   two_regions r f found =
       let place : length fore + r ≡ r + k = (let long = fore_length in omega arith) in
-      subst (λ (fs : List Fork). slice_get fs (r + k) ≡ Some f) (sym root_forks)
-      (subst (λ (i : ℕ). slice_get (fore ++ forks split.after) i ≡ Some f) place (get_right fore (forks split.after) r ∙ subst (λ (fs : List Fork). slice_get fs r ≡ Some f) two_forks found))
+      subst (λ (fs : List ForkPlace). slice_get fs (r + k) ≡ Some f) (sym root_forks)
+      (subst (λ (i : ℕ). slice_get (fore ++ forks split.after) i ≡ Some f) place (get_right fore (forks split.after) r ∙ subst (λ (fs : List ForkPlace). slice_get fs r ≡ Some f) two_forks found))
 
-  in_one : (r : ℕ) → r < k → (f : Fork) → slice_get (forks (logs [])) (r + 0) ≡ Some f → slice_get (forks (one [])) r ≡ Some f
+  in_one : (r : ℕ) → r < k → (f : ForkPlace) → slice_get (forks (logs [])) (r + 0) ≡ Some f → slice_get (forks (one [])) r ≡ Some f
   in_one r less f found =
       let place : r + 0 ≡ r = omega arith in
       let within : r < length fore = (let long = fore_length in omega arith) in
-      subst (λ (fs : List Fork). slice_get fs r ≡ Some f) (sym one_forks)
+      subst (λ (fs : List ForkPlace). slice_get fs r ≡ Some f) (sym one_forks)
       (sym (get_left fore (forks split.after) r within)
-      ∙ subst (λ (i : ℕ). slice_get (fore ++ forks split.after) i ≡ Some f) place (subst (λ (fs : List Fork). slice_get fs (r + 0) ≡ Some f) root_forks found))
+      ∙ subst (λ (i : ℕ). slice_get (fore ++ forks split.after) i ≡ Some f) place (subst (λ (fs : List ForkPlace). slice_get fs (r + 0) ≡ Some f) root_forks found))
 
-  in_two : (r : ℕ) (f : Fork) → slice_get (forks (logs [])) (r + k) ≡ Some f → slice_get (forks (two [])) r ≡ Some f
+  in_two : (r : ℕ) (f : ForkPlace) → slice_get (forks (logs [])) (r + k) ≡ Some f → slice_get (forks (two [])) r ≡ Some f
   in_two r f found =
       let place : r + k ≡ length fore + r = (let long = fore_length in omega arith) in
-      subst (λ (fs : List Fork). slice_get fs r ≡ Some f) (sym two_forks)
+      subst (λ (fs : List ForkPlace). slice_get fs r ≡ Some f) (sym two_forks)
       (sym (get_right fore (forks split.after) r)
-      ∙ subst (λ (i : ℕ). slice_get (fore ++ forks split.after) i ≡ Some f) place (subst (λ (fs : List Fork). slice_get fs (r + k) ≡ Some f) root_forks found))
+      ∙ subst (λ (i : ℕ). slice_get (fore ++ forks split.after) i ≡ Some f) place (subst (λ (fs : List ForkPlace). slice_get fs (r + k) ≡ Some f) root_forks found))
 
   apart : All NoEnd split.before × EndsOnce split.after
   apart = ends_apart split.before split.after (subst EndsOnce split.root (tree.ends.ended [] tree.tasks.root))

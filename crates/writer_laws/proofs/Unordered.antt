@@ -11,7 +11,7 @@ use Rattle.race_model.specs.Race.{IsUnordered}
 use Rattle.race_model.specs.ForkJoin.{IsForkJoin}
 use Rattle.counted_order.proofs.Paths.{unordered_parts}
 use Rattle.writer_laws.specs.Carrying.{Carries}
-use Rattle.writer_laws.specs.Places.{Fork, ForkAlike, IsAtPlace}
+use Rattle.writer_laws.specs.Places.{ForkPlace, ForkAlike, IsAtPlace}
 use Rattle.writer_laws.proofs.Forks.{fork_listed, find_fork}
 
 -- the region of this number in the other run
@@ -28,7 +28,7 @@ pub forked_too : (logs others : Logs) → ForkAlike logs others → (fork : Node
     → IsForkedToo others fork.path (regions_before logs fork) (barriers_before logs fork) s
 forked_too logs others alike fork n s child lane =
     let listed = fork_listed 0 (logs fork.path) fork.index lane.event lane.found lane.region in
-    let there = subst (λ (fs : List Fork). slice_get fs (regions_before logs fork) ≡ Some (record { span = lane.event.value; barriers = 0 + barriers_before logs fork })) (alike fork.path) listed in
+    let there = subst (λ (fs : List ForkPlace). slice_get fs (regions_before logs fork) ≡ Some (record { span = lane.event.value; barriers = 0 + barriers_before logs fork })) (alike fork.path) listed in
     let h = find_fork 0 (others fork.path) (regions_before logs fork) (record { span = lane.event.value; barriers = 0 + barriers_before logs fork }) there in
     let as_many = h.barriers_are in
     record {

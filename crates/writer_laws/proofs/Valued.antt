@@ -10,7 +10,7 @@ use Rattle.race_model.specs.Race.{IsRace, IsRacePair, held_after, held_after_kin
 use Rattle.race_model.specs.ForkJoin.{IsForkJoin, EndsOnce}
 use Rattle.race_laws.proofs.Counts.{region_from_true}
 use Rattle.writer_laws.specs.Carrying.{Carries}
-use Rattle.writer_laws.specs.Places.{Fork, forks_from, IsAtPlace}
+use Rattle.writer_laws.specs.Places.{ForkPlace, forks_from, IsAtPlace}
 use Rattle.writer_laws.specs.StandIns.{Covers, HasStandIn, IsReplaced}
 use Rattle.writer_laws.specs.Values.{IsSameButValue, AreSameButValues, DifferInValues, TasksDifferInValues}
 use Rattle.writer_laws.proofs.Forks.{barrier_step}
@@ -60,10 +60,10 @@ forks_same b [] (s ∷ others) e = absurd e
 forks_same b (r ∷ records) [] e = absurd e
 forks_same b (r ∷ records) (s ∷ others) e =
     first (is_region_kind r.kind) refl (forks_from (b + cond (is_barrier_kind r.kind) 1 0) records)
-    ∙ ap₂ (λ (p : Bool) (fs : List Fork). cond p (record { span = s.value; barriers = b } ∷ fs) fs) (ap is_region_kind e.0.kind)
+    ∙ ap₂ (λ (p : Bool) (fs : List ForkPlace). cond p (record { span = s.value; barriers = b } ∷ fs) fs) (ap is_region_kind e.0.kind)
     (ap (λ (k : Kind). forks_from (b + cond (is_barrier_kind k) 1 0) records) e.0.kind ∙ forks_same (b + cond (is_barrier_kind s.kind) 1 0) records others e.1)
   where
-    first : (p : Bool) → is_region_kind r.kind ≡ p → (fs : List Fork)
+    first : (p : Bool) → is_region_kind r.kind ≡ p → (fs : List ForkPlace)
         → cond (is_region_kind r.kind) (record { span = r.value; barriers = b } ∷ fs) fs ≡ cond (is_region_kind r.kind) (record { span = s.value; barriers = b } ∷ fs) fs
     first true is fs = ap (λ (n : ℕ). cond (is_region_kind r.kind) (record { span = n; barriers = b } ∷ fs) fs) (e.0.span (region_from_true r.kind is))
     first false is fs = rw is refl

@@ -12,9 +12,9 @@ use Rattle.counted_order.specs.Parting.{PartInLanes}
 use Rattle.writer_laws.specs.Cases.{
   LosesPair,
   DifferInLocksAlone,
-  access,
+  plain_access,
   lane,
-  inner,
+  inner_lane,
   event_of,
   unlocked_access,
   locked_access,
@@ -36,10 +36,10 @@ abbrev node : List Step → ℕ → Node
 node path index = record { path = path; index = index }
 
 -- line 5 writes what line 7 reads, in two lanes of a region
-pair : (trace : Trace) (x y : Node) → record_at (logs_of trace) x ≡ Some (access Write 5 100 0) → record_at (logs_of trace) y ≡ Some (access Read 7 100 0) → is_fork_join trace ≡ true
+pair : (trace : Trace) (x y : Node) → record_at (logs_of trace) x ≡ Some (plain_access Write 5 100 0) → record_at (logs_of trace) y ≡ Some (plain_access Read 7 100 0) → is_fork_join trace ≡ true
     → PartInLanes x.path y.path 0 → passed (logs_of trace) x 0 ≡ passed (logs_of trace) y 0 → held_at (logs_of trace) x ≡ [] → IsRacePair (logs_of trace) (5, 7)
 pair trace x y left right fine parts level free =
-    pair_of trace x y (access Write 5 100 0) (access Read 7 100 0) 0 fine left right (inr (inl refl)) (inl refl) parts level
+    pair_of trace x y (plain_access Write 5 100 0) (plain_access Read 7 100 0) 0 fine left right (inr (inl refl)) (inl refl) parts level
     (100, record { from_start = omega arith; to_end = omega arith }, record { from_start = omega arith; to_end = omega arith }) (inl (inl refl)) (λ mine yours. cc)
     (λ m mine yours. no_mutex m (subst (λ (held : List ℕ). Contains held m) free mine))
 
@@ -57,7 +57,7 @@ held_cut = loses cut_where_held held_over_barrier (5, 7) refl refl
 
 pub inside_cut : LosesPair (logs_of team_inside) (logs_of cut_inside)
 inside_cut = loses team_inside cut_inside (5, 7) refl refl
-    (pair team_inside (node (inner (lane 0 0) 0 0) 1) (node (lane 0 1) 0) refl refl refl (part_at_once 0 0 1 2 (record { region = 0; lane = 0; span = 2 } ∷ []) [] (λ e. omega arith)) refl refl) refl
+    (pair team_inside (node (inner_lane (lane 0 0) 0 0) 1) (node (lane 0 1) 0) refl refl refl (part_at_once 0 0 1 2 (record { region = 0; lane = 0; span = 2 } ∷ []) [] (λ e. omega arith)) refl refl) refl
 
 pub within_split : (pair : ℕ × ℕ) × IsRacePair (logs_of no_barrier) pair × (IsRacePair (logs_of first_half) pair → ⊥) × (IsRacePair (logs_of second_half) pair → ⊥)
 within_split = (

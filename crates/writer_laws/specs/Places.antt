@@ -5,19 +5,19 @@ use Rattle.log_format.specs.declared.record.Record.{Record}
 use Rattle.race_model.specs.Trace.{Logs, Node, is_region_kind, is_barrier_kind, barriers_before}
 
 -- a region that a log forks: its span, and how many barriers come before it
-pub record Fork : Type 0 where
+pub record ForkPlace : Type 0 where
   pub span : ℕ
   pub barriers : ℕ
 
-abbrev pub with_fork : Record → ℕ → List Fork → List Fork
+abbrev pub with_fork : Record → ℕ → List ForkPlace → List ForkPlace
 with_fork r barriers forks = if is_region_kind r.kind then record { span = r.value; barriers = barriers } ∷ forks else forks
 
-abbrev pub forks_from : ℕ → List Record → List Fork
+abbrev pub forks_from : ℕ → List Record → List ForkPlace
 forks_from barriers [] = []
 forks_from barriers (r ∷ records) = with_fork r barriers (forks_from (barriers + cond (is_barrier_kind r.kind) 1 0) records)
 
 -- the regions that a log forks, in order
-abbrev pub forks : List Record → List Fork
+abbrev pub forks : List Record → List ForkPlace
 forks records = forks_from 0 records
 
 -- each task forks the same regions in the two runs, each after as many barriers

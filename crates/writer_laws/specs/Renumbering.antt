@@ -5,7 +5,7 @@ use Rattle.race_model.specs.Listing.{lane_of}
 use Rattle.race_model.specs.Trace.{Logs, Node, IsThere, regions_before, barriers_before}
 use Rattle.race_model.specs.Order.{IsLane}
 use Rattle.race_model.specs.ForkJoin.{IsTask, WasForked}
-use Rattle.writer_laws.specs.Places.{Fork, forks}
+use Rattle.writer_laws.specs.Places.{ForkPlace, forks}
 
 -- which number a region of the other run had in this one: of which task, and its number there
 abbrev pub Numbers : Type 0
@@ -29,7 +29,7 @@ pub record ComesFrom (number : Numbers) (offset : List Step → ℕ) (logs other
 
 -- a region of the other run and where it was
 abbrev pub WereForks : Numbers → (List Step → ℕ) → Logs → Logs → Type 0
-WereForks number offset logs others = (path other : List Step) (region : ℕ) (f : Fork) → IsFrom number path other → slice_get (forks (others other)) region ≡ Some f
+WereForks number offset logs others = (path other : List Step) (region : ℕ) (f : ForkPlace) → IsFrom number path other → slice_get (forks (others other)) region ≡ Some f
     → slice_get (forks (logs path)) (number other region) ≡ Some (record { span = f.span; barriers = f.barriers + offset other })
 
 -- lanes of one region begin after as many barriers, and what was one region and one stretch between barriers is in one region

@@ -9,7 +9,7 @@ use Rattle.race_model.specs.Race.{held_at}
 
 -- a record comes where these mutexes are held: a Lock takes another one, and no ninth; an Unlock gives back the one that was locked last; none is held
 -- at a Barrier, a Region or an End
-pub record IsNested (held : List ℕ) (r : Record) : Type 0 where
+pub record IsNestedRecord (held : List ℕ) (r : Record) : Type 0 where
   pub once : r.kind ≡ Lock → Contains held r.addr → ⊥
   pub limit : r.kind ≡ Lock → length held ≡ 8 → ⊥
   pub last : r.kind ≡ Unlock → ((outer : List ℕ) → held ≢ outer ++ r.addr ∷ []) → ⊥
@@ -17,7 +17,7 @@ pub record IsNested (held : List ℕ) (r : Record) : Type 0 where
 
 -- mutexes nest in each log
 abbrev pub AreNested : Logs → Type 0
-AreNested logs = (x : Node) (r : Record) → record_at logs x ≡ Some r → IsNested (held_at logs x) r
+AreNested logs = (x : Node) (r : Record) → record_at logs x ≡ Some r → IsNestedRecord (held_at logs x) r
 
 -- each record is of the format's table
 abbrev pub AreTabled : Format → Logs → Type 0

@@ -19,6 +19,6 @@ pub data IsWritten : Logs → List Logs → Type 0 where
   split : (logs one two : Logs) (parts more : List Logs) → IsSplit logs one two → IsWritten one parts → IsWritten two more → IsWritten logs (parts ++ more)
 
 -- one of the runs has this race pair
-abbrev pub HasPair : List Logs → ℕ × ℕ → Type 0
-HasPair [] pair = ⊥
-HasPair (logs ∷ parts) pair = IsRacePair logs pair ⊎ HasPair parts pair
+abbrev pub IsPairOfParts : List Logs → ℕ × ℕ → Type 0
+IsPairOfParts [] pair = ⊥
+IsPairOfParts (logs ∷ parts) pair = IsRacePair logs pair ⊎ IsPairOfParts parts pair

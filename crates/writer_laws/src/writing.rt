@@ -12,7 +12,7 @@ ghost use Rattle.writer_laws.specs.Guards.{DifferInLocks};
 ghost use Rattle.writer_laws.specs.Splitting.{IsSplit};
 ghost use Rattle.writer_laws.specs.StandIns.{IsReplaced};
 ghost use Rattle.writer_laws.specs.Values.{DifferInValues};
-ghost use Rattle.writer_laws.specs.Writing.{IsWritten, HasPair};
+ghost use Rattle.writer_laws.specs.Writing.{IsWritten, IsPairOfParts};
 
 /// Where the tasks of two runs fork the same regions after as many barriers, records are unordered exactly where those at the same places are.
 pub fn unordered_by_places()
@@ -81,5 +81,5 @@ pub fn run_may_be_split()
 /// A recorder may do all this, one step after another: it writes fork-join runs, and the race pairs of the run are theirs.
 pub fn recorders_keep_pairs()
     ensures runs { (logs : Logs) (parts : List Logs) → IsForkJoin logs → IsWritten logs parts → All IsForkJoin parts }
-    ensures pairs { (logs : Logs) (parts : List Logs) (pair : ℕ × ℕ) → IsForkJoin logs → IsWritten logs parts → IsRacePair logs pair ↔ HasPair parts pair }
+    ensures pairs { (logs : Logs) (parts : List Logs) (pair : ℕ × ℕ) → IsForkJoin logs → IsWritten logs parts → IsRacePair logs pair ↔ IsPairOfParts parts pair }
 {}

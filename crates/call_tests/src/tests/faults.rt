@@ -84,7 +84,7 @@ const RACING: Case<'static> = Case {
 
 const RACES_FOUND: Calls<'static> = Calls {
     case: RACING,
-    reads: 9,
+    reads: 6,
     prints: 2,
     ..NONE
 };
@@ -96,7 +96,7 @@ const CUT: Calls<'static> = Calls {
         asked: &[(CHECK, FOLDER_REFUSED, "bad log t-0.1.swl record 1: Cut\n")],
         ..RACING
     },
-    reads: 10,
+    reads: 6,
     ..NONE
 };
 
@@ -150,13 +150,13 @@ macro_rules! nested {
 
 const SAME: Calls<'static> = Calls {
     case: nested!(6, &[(REPLAY, DONE, "same\n")]),
-    reads: 26,
+    reads: 19,
     ..NONE
 };
 
 const DIFFERING: Calls<'static> = Calls {
     case: nested!(5, &[(REPLAY, DIFFERS, "differs t-0.1-0.1.swl record 1\n")]),
-    reads: 26,
+    reads: 19,
     ..NONE
 };
 
@@ -168,7 +168,7 @@ fn each_call_of_a_replay_may_fail(rt: HostRuntime) {
 
 const SHOWN: Calls<'static> = Calls {
     case: nested!(6, &[(SHOW, DONE, "log t.swl records 2\n...")]),
-    reads: 24,
+    reads: 17,
     ..NONE
 };
 
@@ -203,9 +203,9 @@ const BROUGHT: Calls<'static> = Calls {
         asked: &[(&["upgrade", "d", "e"], DONE, "upgraded 3\n")],
         ..EMPTY
     },
-    reads: 13,
+    reads: 10,
     writes: 4,
-    puts: &[12, 14, 16, 17],
+    puts: &[9, 11, 13, 14],
     made: &["e/t.swl", "e/t-0.0.swl", "e/t-0.1.swl", "e/index.swi"],
     ..NONE
 };
@@ -224,7 +224,7 @@ const EXPLAINED: Calls<'static> = Calls {
         )],
         ..RACING
     },
-    reads: 14,
+    reads: 11,
     ..NONE
 };
 
@@ -237,7 +237,7 @@ const CONFIRMED: Calls<'static> = Calls {
         )],
         ..RACING
     },
-    reads: 11,
+    reads: 8,
     ..NONE
 };
 

@@ -12,8 +12,8 @@ mod folders;
 mod witnesses;
 
 pub use cases::{
-    Case, EMPTY, Question, Verdict, Whole, all_judged, all_pass, all_run, answers, folder_of,
-    passes, passes_past,
+    Case, EMPTY, Question, Subject, Verdict, Whole, all_judged, all_pass, all_run, answers,
+    each_passes, folder_of, passes, passes_past,
 };
 pub use commands::{CERTIFY, REPLAY, RUN, SHOW, USAGE_LINE, asked, printed};
 pub use faults::{Calls, each_call_may_fail};

@@ -1,6 +1,6 @@
 //! The text of each reason for which a folder is refused.
 
-use crate::tests::fixtures::{BARRIER, Case, EMPTY, END, ROOT, Rec, all_pass, answers};
+use crate::tests::fixtures::{BARRIER, Case, EMPTY, END, ROOT, Rec, Subject, answers, each_passes};
 use crate::{lock, region, unlock};
 use command_answer::FOLDER_REFUSED;
 use memory_environment::MemFolder;
@@ -169,21 +169,6 @@ const FILES: &[Case<'static>] = &[
     ),
 ];
 
-#[test]
-fn a_bad_field_of_a_record_is_told(rt: HostRuntime) {
-    all_pass(&rt, rt.alloc(), FIELDS);
-}
-
-#[test]
-fn a_rule_that_a_record_breaks_is_told(rt: HostRuntime) {
-    all_pass(&rt, rt.alloc(), RULES);
-}
-
-#[test]
-fn bytes_that_are_no_index_or_log_are_told(rt: HostRuntime) {
-    all_pass(&rt, rt.alloc(), FILES);
-}
-
 // The row of a lane that is alone in this region, whose log has one record.
 fn add_row(rt: &impl Abort, index: &mut Vec<u8>, region: u32) {
     index
@@ -216,4 +201,15 @@ fn a_row_too_many_is_told(rt: HostRuntime) {
         .expect(&rt, "memory");
     let text = "bad index row 65537: TooMany\n";
     answers(&rt, alloc, &mut folder, CHECK, FOLDER_REFUSED, text);
+}
+
+const SUBJECTS: &[Subject<'static>] = &[
+    ("a bad field of a record is told", FIELDS),
+    ("a rule that a record breaks is told", RULES),
+    ("bytes that are no index or log are told", FILES),
+];
+
+#[test]
+fn each_reason_of_a_refusal_is_told(rt: HostRuntime) {
+    each_passes(&rt, rt.alloc(), SUBJECTS);
 }

@@ -1,7 +1,8 @@
 //! `replay`: folders against their kernels and against others, and why there is no comparison.
 
 use crate::tests::fixtures::{
-    Case, EMPTY, END, REPLAY, ROOT, RUN, Rec, USAGE_LINE, all_pass, answers, folder_of, passes,
+    Case, EMPTY, END, REPLAY, ROOT, RUN, Rec, Subject, USAGE_LINE, answers, each_passes, folder_of,
+    passes,
 };
 use crate::{region, store};
 use command_answer::{DIFFERS, DONE, FOLDER_REFUSED, KERNEL_REFUSED, USAGE};
@@ -135,11 +136,6 @@ const OTHERS: Case<'static> = Case {
     ..EMPTY
 };
 
-#[test]
-fn another_kernel_differs(rt: HostRuntime) {
-    all_pass(&rt, rt.alloc(), &[OTHERS]);
-}
-
 const ONE_STORE: &str = "array a i64 1\nmain {\na[0] = 1\n\n\n\n\n\n}";
 
 const OWN: Rec = store!(3, 4096);
@@ -164,11 +160,6 @@ const ONE_TASK: &[Case<'static>] = &[
         ..EMPTY
     },
 ];
-
-#[test]
-fn a_log_is_neither_shorter_nor_longer_than_its_trace(rt: HostRuntime) {
-    all_pass(&rt, rt.alloc(), ONE_TASK);
-}
 
 macro_rules! end {
     ($line:expr) => {
@@ -238,11 +229,6 @@ const DRAWN: Case<'static> = Case {
     ..EMPTY
 };
 
-#[test]
-fn chunks_are_those_that_the_logs_draw(rt: HostRuntime) {
-    all_pass(&rt, rt.alloc(), &[DRAWN]);
-}
-
 // Lanes of a lane's region see its locals.
 const NESTED: &str = "array a i64 4
 main {
@@ -311,11 +297,6 @@ const LOCALS: &[Case<'static>] = &[
     },
 ];
 
-#[test]
-fn a_task_starts_from_the_locals_at_its_fork(rt: HostRuntime) {
-    all_pass(&rt, rt.alloc(), LOCALS);
-}
-
 const REFUSED: &[Case<'static>] = &[
     Case {
         asked: &[(REPLAY, KERNEL_REFUSED, "no kernel\n")],
@@ -339,11 +320,6 @@ const REFUSED: &[Case<'static>] = &[
     },
 ];
 
-#[test]
-fn no_kernel_or_no_folder_is_refused(rt: HostRuntime) {
-    all_pass(&rt, rt.alloc(), REFUSED);
-}
-
 const OTHER_WORDS: Case<'static> = Case {
     asked: &[
         (&["replay"], USAGE, USAGE_LINE),
@@ -355,7 +331,19 @@ const OTHER_WORDS: Case<'static> = Case {
     ..EMPTY
 };
 
+const SUBJECTS: &[Subject<'static>] = &[
+    ("another kernel differs", &[OTHERS]),
+    (
+        "a log is neither shorter nor longer than its trace",
+        ONE_TASK,
+    ),
+    ("chunks are those that the logs draw", &[DRAWN]),
+    ("a task starts from the locals at its fork", LOCALS),
+    ("no kernel or no folder is refused", REFUSED),
+    ("other words are a usage fault", &[OTHER_WORDS]),
+];
+
 #[test]
-fn other_words_are_a_usage_fault(rt: HostRuntime) {
-    all_pass(&rt, rt.alloc(), &[OTHER_WORDS]);
+fn a_replay_tells_where_a_folder_leaves_its_kernel(rt: HostRuntime) {
+    each_passes(&rt, rt.alloc(), SUBJECTS);
 }

@@ -1,6 +1,6 @@
 //! Kernels that stop: which stop is told, and what is left of the run.
 
-use crate::tests::fixtures::{Case, EMPTY, RUN, all_pass, passes_past};
+use crate::tests::fixtures::{Case, EMPTY, RUN, Subject, each_passes, passes_past};
 use command_answer::{DONE, FOLDER_REFUSED, KERNEL_STOPPED, WRITE_FAULT};
 use sw_base::Path;
 
@@ -104,11 +104,6 @@ const STOPS: &[Case<'static>] = &[
     },
 ];
 
-#[test]
-fn a_stop_leaves_the_logs_of_all_tasks(rt: HostRuntime) {
-    all_pass(&rt, rt.alloc(), STOPS);
-}
-
 // A lane that stops gives its mutex back: lane 0 has a Lock alone, and lane 1 a Lock, a Write, an Unlock and an End.
 const GUARDED_STOPS: &[Case<'static>] = &[
     Case {
@@ -128,11 +123,6 @@ const GUARDED_STOPS: &[Case<'static>] = &[
         ..EMPTY
     },
 ];
-
-#[test]
-fn a_stop_ends_who_holds_and_who_waits(rt: HostRuntime) {
-    all_pass(&rt, rt.alloc(), GUARDED_STOPS);
-}
 
 const ONE_BY_ONE: &[&str] = &["run", "k", "d", "24"];
 
@@ -188,11 +178,6 @@ const TOO_MANY: Case<'static> = Case {
     ..EMPTY
 };
 
-#[test]
-fn a_run_has_no_65537_tasks(rt: HostRuntime) {
-    all_pass(&rt, rt.alloc(), &[TOO_MANY]);
-}
-
 // The root, 1,023 regions of 64 lanes, and one of 63. The root has a record for each region and an End, and each lane an End.
 const WHOLE: Case<'static> = Case {
     held: &[(
@@ -202,11 +187,6 @@ const WHOLE: Case<'static> = Case {
     asked: &[(RUN, DONE, "tasks 65536\nrecords 66560\n")],
     ..EMPTY
 };
-
-#[test]
-fn a_run_has_65536_tasks(rt: HostRuntime) {
-    all_pass(&rt, rt.alloc(), &[WHOLE]);
-}
 
 // Each of four lanes, one after another, has 20,000 barrier intervals with a store, and a record for each of these, for its barrier, and for
 // its end. So the last one may have 5,536.
@@ -225,11 +205,6 @@ const PARTED: Case<'static> = Case {
     ],
     ..EMPTY
 };
-
-#[test]
-fn a_run_may_have_too_many_segments(rt: HostRuntime) {
-    all_pass(&rt, rt.alloc(), &[PARTED]);
-}
 
 // A lane that puts so many records, does this then, and stops so.
 macro_rules! full {
@@ -271,11 +246,6 @@ const FULL: &[Case<'static>] = &[
     full!("4194304", "let x = a[1]", OUTSIDE),
 ];
 
-#[test]
-fn a_log_has_no_4194305_records(rt: HostRuntime) {
-    all_pass(&rt, rt.alloc(), FULL);
-}
-
 // The root puts as many records as a log may have, and one more.
 const WHOLE_LOGS: &[Case<'static>] = &[
     Case {
@@ -296,11 +266,6 @@ const WHOLE_LOGS: &[Case<'static>] = &[
     },
 ];
 
-#[test]
-fn a_log_has_4194304_records(rt: HostRuntime) {
-    all_pass(&rt, rt.alloc(), WHOLE_LOGS);
-}
-
 const FAILING: Case<'static> = Case {
     held: &[(
         "k",
@@ -314,4 +279,19 @@ const FAILING: Case<'static> = Case {
 #[test]
 fn a_log_that_fails_leaves_nothing(rt: HostRuntime) {
     passes_past(&rt, rt.alloc(), &Path::root(), 3, &FAILING);
+}
+
+const SUBJECTS: &[Subject<'static>] = &[
+    ("a stop leaves the logs of all tasks", STOPS),
+    ("a stop ends who holds and who waits", GUARDED_STOPS),
+    ("a run has no 65537 tasks", &[TOO_MANY]),
+    ("a run has 65536 tasks", &[WHOLE]),
+    ("a run may have too many segments", &[PARTED]),
+    ("a log has no 4194305 records", FULL),
+    ("a log has 4194304 records", WHOLE_LOGS),
+];
+
+#[test]
+fn stops_and_limits_are_told(rt: HostRuntime) {
+    each_passes(&rt, rt.alloc(), SUBJECTS);
 }

@@ -59,20 +59,20 @@ fn answered<R: Abort + Threads + Wait + Sync + Copy + Send + 'static>(
 #[test]
 fn a_region_is_compared_before_the_next_is_read(rt: HostRuntime) {
     let alloc = rt.alloc();
-    // The size of the index and its two reads, and for each of five logs its size and one read.
-    for call in 1..=9 {
+    // The size of the index and its two reads, and each of five logs is opened.
+    for call in 1..=6 {
         assert!(rt;
             answered(&rt, alloc, call) == (READ_FAULT, 0),
             "call {call}"
         );
     }
-    for call in 10..14 {
+    for call in 7..9 {
         assert!(rt;
             answered(&rt, alloc, call) == (READ_FAULT, WORKERS),
             "call {call}"
         );
     }
-    assert!(rt; answered(&rt, alloc, 14) == (RACES, 2 * WORKERS));
+    assert!(rt; answered(&rt, alloc, 9) == (RACES, 2 * WORKERS));
 }
 
 const REGIONS: u32 = 100;

@@ -1,6 +1,6 @@
 //! Kernels with atomic updates: what `run` prints of them, and `check` and `replay` of what it wrote.
 
-use crate::tests::fixtures::{Case, EMPTY, REPLAY, RUN, SHOW, all_pass};
+use crate::tests::fixtures::{Case, EMPTY, REPLAY, RUN, SHOW, Subject, each_passes};
 use command_answer::{DONE, KERNEL_STOPPED, RACES};
 
 const CHECK: &[&str] = &["check", "d", "2"];
@@ -50,11 +50,6 @@ const ROWS: &[Case<'static>] = &[
     ),
 ];
 
-#[test]
-fn updates_race_with_reads_and_not_with_each_other(rt: HostRuntime) {
-    all_pass(&rt, rt.alloc(), ROWS);
-}
-
 const MANY: &[Case<'static>] = &[
     apart!(
         "array s i64 1 main { parallel 64 { loop k in 0 .. 1000 { atomic s[0] += 1 } } }",
@@ -65,11 +60,6 @@ const MANY: &[Case<'static>] = &[
         "tasks 65\nrecords 64066\nsum s 512\n"
     ),
 ];
-
-#[test]
-fn updates_of_64_lanes_lose_nothing(rt: HostRuntime) {
-    all_pass(&rt, rt.alloc(), MANY);
-}
 
 // A plain write beside an update; updates in critical sections, in a loop whose chunks are drawn, and in a region inside another; a
 // negative amount that is taken away.
@@ -97,11 +87,6 @@ const PLACES: &[Case<'static>] = &[
     ),
 ];
 
-#[test]
-fn updates_stand_where_stores_do(rt: HostRuntime) {
-    all_pass(&rt, rt.alloc(), PLACES);
-}
-
 // The amount reads before the update, and what a lane reads of its own is what its updates left.
 const SHOWN: Case<'static> = Case {
     held: &[(
@@ -119,11 +104,6 @@ const SHOWN: Case<'static> = Case {
     ],
     ..EMPTY
 };
-
-#[test]
-fn updates_are_shown_with_the_amount_added(rt: HostRuntime) {
-    all_pass(&rt, rt.alloc(), &[SHOWN]);
-}
 
 macro_rules! stopping {
     ($text:literal, $stop:literal) => {
@@ -154,7 +134,15 @@ const STOPS: &[Case<'static>] = &[
     ),
 ];
 
+const SUBJECTS: &[Subject<'static>] = &[
+    ("updates race with reads and not with each other", ROWS),
+    ("updates of 64 lanes lose nothing", MANY),
+    ("updates stand where stores do", PLACES),
+    ("updates are shown with the amount added", &[SHOWN]),
+    ("updates stop as stores do", STOPS),
+];
+
 #[test]
-fn updates_stop_as_stores_do(rt: HostRuntime) {
-    all_pass(&rt, rt.alloc(), STOPS);
+fn updates_run_check_and_replay(rt: HostRuntime) {
+    each_passes(&rt, rt.alloc(), SUBJECTS);
 }

@@ -1,7 +1,9 @@
 //! Folders of the first format: what `upgrade` prints of them, and what is then in the new folder.
 
 use crate::store;
-use crate::tests::fixtures::{BARRIER, Case, EMPTY, END, ROOT, all_pass, folder_of, printed};
+use crate::tests::fixtures::{
+    BARRIER, Case, EMPTY, END, ROOT, Subject, each_passes, folder_of, printed,
+};
 use command_answer::{DONE, FOLDER_REFUSED, INDEX_THERE, RACES};
 use host_environment::HostFolder;
 use std::alloc::Global;
@@ -132,11 +134,6 @@ const BROUGHT: &[Case<'static>] = &[
     },
 ];
 
-#[test]
-fn a_folder_of_the_first_format_is_brought_over(rt: HostRuntime) {
-    all_pass(&rt, rt.alloc(), BROUGHT);
-}
-
 const UPGRADE: &[&str] = &["upgrade", "d", "e"];
 
 // A folder that isn't brought over, and nothing is left.
@@ -191,11 +188,6 @@ const REFUSED: &[Case<'static>] = &[
         ..EMPTY
     },
 ];
-
-#[test]
-fn a_folder_that_is_bad_by_the_first_format_is_not_brought_over(rt: HostRuntime) {
-    all_pass(&rt, rt.alloc(), REFUSED);
-}
 
 type Host = HostFolder<HostRuntime>;
 
@@ -273,4 +265,17 @@ fn real_files_are_brought_over(rt: HostRuntime) {
     put_files(&rt, alloc, &mut folder, &top);
     real_files_answer(&rt, alloc, &mut folder, &top);
     fs::remove_dir_all(&rt, &top).expect(&rt, "no folder");
+}
+
+const SUBJECTS: &[Subject<'static>] = &[
+    ("a folder of the first format is brought over", BROUGHT),
+    (
+        "a folder that is bad by the first format is not brought over",
+        REFUSED,
+    ),
+];
+
+#[test]
+fn a_folder_of_the_first_format_is_brought_over_or_refused(rt: HostRuntime) {
+    each_passes(&rt, rt.alloc(), SUBJECTS);
 }

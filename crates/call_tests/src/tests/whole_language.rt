@@ -2,7 +2,9 @@
 //! that it wrote.
 
 use super::runs::left_by;
-use crate::tests::fixtures::{Case, EMPTY, RUN, SHOW, Whole, all_pass, all_run, printed};
+use crate::tests::fixtures::{
+    Case, EMPTY, RUN, SHOW, Subject, Whole, all_pass, all_run, each_passes, printed,
+};
 use command_answer::{DIFFERS, DONE, RACES};
 use memory_environment::MemFolder;
 use std::alloc::Global;
@@ -205,11 +207,6 @@ const RESIZED: Case<'static> = Case {
     ..EMPTY
 };
 
-#[test]
-fn chunks_of_another_size_differ_at_the_first_draw(rt: HostRuntime) {
-    all_pass(&rt, rt.alloc(), &[RESIZED]);
-}
-
 const ROOT_ALONE: Case<'static> = Case {
     held: &[("k", ONE_STORE)],
     asked: &[
@@ -222,11 +219,6 @@ const ROOT_ALONE: Case<'static> = Case {
     ],
     ..EMPTY
 };
-
-#[test]
-fn the_root_alone_is_shown(rt: HostRuntime) {
-    all_pass(&rt, rt.alloc(), &[ROOT_ALONE]);
-}
 
 const REPEATED: Case<'static> = Case {
     held: &[("k", TWO_LOOPS)],
@@ -318,4 +310,17 @@ fn shows_draws<R: Abort + Threads + Wait + Sync + Copy + Send + 'static>(
 fn each_chunk_is_drawn_once(rt: HostRuntime) {
     let mut folder = left_by(&rt, rt.alloc(), &DRAWING);
     shows_draws(&rt, rt.alloc(), &mut folder);
+}
+
+const SUBJECTS: &[Subject<'static>] = &[
+    (
+        "chunks of another size differ at the first draw",
+        &[RESIZED],
+    ),
+    ("the root alone is shown", &[ROOT_ALONE]),
+];
+
+#[test]
+fn chunks_of_another_size_and_a_root_alone(rt: HostRuntime) {
+    each_passes(&rt, rt.alloc(), SUBJECTS);
 }

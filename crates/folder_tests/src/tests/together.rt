@@ -265,8 +265,60 @@ fn a_read_that_fails_beside_others_is_told(rt: HostRuntime) {
         writes: 45_000,
         ..PLAIN
     };
-    // The size of the index and its two reads; for the root, three lanes and the two inner ones a size and one read, and for the
-    // third lane, whose log takes two windows, one read more.
+    // The size of the index and its two reads, and the root's log, those of four lanes and of two inner ones are opened once each.
     let calls = first_untold(&rt, rt.alloc(), &[PLAIN, forking(PLAIN), long, PLAIN], 4);
-    assert!(rt; calls == 19, "{calls}");
+    assert!(rt; calls == 11, "{calls}");
+}
+
+// What is told where this read of the third lane's log fails, by so many workers, and how many faults are counted.
+fn told_at<R: Abort + Threads + Sync>(
+    rt: &R,
+    alloc: Global,
+    lanes: &[Lane; 4],
+    read: u64,
+    workers: usize,
+) -> (Told, u64)
+    requires { 1 ≤ workers }
+{
+    let mut folder = team(rt, alloc, lanes);
+    folder
+        .fail_file("d/t-0.2.swl", &[read])
+        .expect(rt, "memory");
+    let told = told_of(by(rt, alloc, &mut folder, workers));
+    (told, folder.faults().0)
+}
+
+#[test]
+fn each_read_of_a_lane_that_fails_is_told(rt: HostRuntime) {
+    let long = Lane {
+        writes: 45_000,
+        ..PLAIN
+    };
+    let lanes = [PLAIN, forking(PLAIN), long, PLAIN];
+    // Its 1,080,128 bytes come by 65,520 at first and then by 65,512, in seventeen reads, and one more tells the end.
+    for workers in [1, 4] {
+        for read in [1, 18] {
+            let told = told_at(&rt, rt.alloc(), &lanes, read, workers);
+            assert!(rt; told == (Told::ReadFault, 1), "read {read} by {workers}");
+        }
+        let told = told_at(&rt, rt.alloc(), &lanes, 19, workers);
+        assert!(rt; told == (Told::Good, 0), "by {workers}");
+    }
+}
+
+#[test]
+fn a_log_that_is_cut_short_beside_others_is_told(rt: HostRuntime) {
+    let mut folder = team(&rt, rt.alloc(), &[PLAIN, forking(PLAIN), PLAIN, PLAIN]);
+    let records = records_of(&rt, rt.alloc(), &PLAIN);
+    let short = records.as_slice().get(..7).expect(&rt, "records");
+    let cut = log_of(&rt, rt.alloc(), short);
+    folder.hold("d/t-0.2.swl", &cut).expect(&rt, "memory");
+    assert!(rt;
+        is_told(
+            &rt,
+            rt.alloc(),
+            &mut folder,
+            Told::Record(3, 8, RecordWhy::Cut)
+        )
+    );
 }

@@ -688,9 +688,9 @@ fn failing_at(rt: &impl Abort, alloc: Global, files: &Files<'_>, call: u64) -> M
 
 #[test]
 fn each_read_that_fails_is_told(rt: HostRuntime) {
-    // The size of the index and its two reads, and for each of three logs its size and one read.
-    for call in 1..11 {
-        let due = if call < 10 {
+    // The size of the index and its two reads, and each of three logs is opened.
+    for call in 1..8 {
+        let due = if call < 7 {
             Told::ReadFault
         } else {
             Told::Good
@@ -700,6 +700,26 @@ fn each_read_that_fails_is_told(rt: HostRuntime) {
             walked(rt.alloc(), &mut folder, "d") == due,
             "at call {call}"
         );
+    }
+}
+
+#[test]
+fn each_read_of_a_log_that_fails_is_told(rt: HostRuntime) {
+    // Its bytes, and its end.
+    for (name, _) in GOOD.logs {
+        for read in 1..4 {
+            let due = if read < 3 {
+                Told::ReadFault
+            } else {
+                Told::Good
+            };
+            let mut folder = folder_of(&rt, rt.alloc(), &GOOD);
+            folder.fail_file(name, &[read]).expect(&rt, "memory");
+            assert!(rt;
+                walked(rt.alloc(), &mut folder, "d") == due,
+                "{name} at read {read}"
+            );
+        }
     }
 }
 
@@ -730,11 +750,11 @@ fn regions_given<F: Folder>(alloc: Global, folder: &mut F, dir: &str) -> u32 {
 
 #[test]
 fn a_region_is_given_before_the_next_is_read(rt: HostRuntime) {
-    // The size of the index and its two reads, and for each of three logs its size and one read.
-    for call in 1..11 {
-        let given = if call <= 7 {
+    // The size of the index and its two reads, and each of three logs is opened.
+    for call in 1..8 {
+        let given = if call <= 5 {
             0
-        } else if call <= 9 {
+        } else if call <= 6 {
             1
         } else {
             2

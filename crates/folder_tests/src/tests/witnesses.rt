@@ -308,9 +308,9 @@ fn a_bad_folder_is_refused(rt: HostRuntime) {
 
 #[test]
 fn each_failing_read_is_told(rt: HostRuntime) {
-    // Nine calls of the sweep, and one for each of the two logs that are read again.
-    for call in 1..13 {
-        let due = if call < 12 {
+    // Six calls of the sweep, and one for each of the two logs that are read again.
+    for call in 1..10 {
+        let due = if call < 9 {
             Told::ReadFault
         } else {
             Told::Race
@@ -348,9 +348,9 @@ fn late_answer(rt: &impl Abort, alloc: Global, call: u64) -> Told {
 
 #[test]
 fn each_failing_read_of_a_long_log_is_told(rt: HostRuntime) {
-    // One call more of the sweep than for short logs, and one more where the long log is read again.
-    for call in 1..15 {
-        let due = if call < 14 {
+    // The sweep opens each log once, and the long log is read again by two calls.
+    for call in 1..11 {
+        let due = if call < 10 {
             Told::ReadFault
         } else {
             Told::Race

@@ -1,6 +1,6 @@
 //! The steps of lanes on a mutex, with what their logs tell of them.
 ghost use Rattle.std.specs.Prelude.{◌≡◌, ◌≤◌, ◌<◌, []};
-ghost use Rattle.kernel_model.specs.Trace.{log_limit};
+ghost use Rattle.log_format.specs.Limit.{record_limit};
 ghost use Rattle.shared_words.specs.Handles.{Belongs};
 
 use crate::tests::support::{buffer, is_log_of, log_of, step};
@@ -28,7 +28,7 @@ fn left<R: Threads + Wait + Copy + Send + 'static>(
     requires free { hand.view.held ≡ [] }
     requires mutex { 1 < world.now.words.locks }
     requires draws { Belongs draws world.now.chunks.table }
-    requires enough { log_limit ≤ draws.view.left }
+    requires enough { record_limit ≤ draws.view.left }
 {
     let mut track = Track::new(alloc, hand, buffer(rt, alloc).ok()?, draws);
     let Ok(()) = track.lock(rt, alloc, world, 1, 5) else {

@@ -76,11 +76,11 @@ fn a_full_log_takes_no_barrier_and_no_end(rt: HostRuntime) {
     let Ok(()) = fill(&rt, alloc, &world, &mut track) else {
         panic!(rt; "no room");
     };
-    let Err(Halt::LogFull { line }) = track.meet(&rt, alloc, 6) else {
+    let Err(Halt::Own(Stop::LogFull { line })) = track.meet(&rt, alloc, 6) else {
         panic!(rt; "a barrier too many");
     };
     assert!(rt; line == 6);
-    let Err(Halt::LogFull { line }) = track.finish(&rt, alloc, 7) else {
+    let Err(Halt::Own(Stop::LogFull { line })) = track.finish(&rt, alloc, 7) else {
         panic!(rt; "an end too many");
     };
     assert!(rt; line == 7);

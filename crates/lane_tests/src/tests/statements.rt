@@ -9,7 +9,7 @@ ghost use Rattle.lane_tests.specs.Lone.{IsLone};
 use crate::tests::one_lane::{Left, Setting, accessed, alone, goes_on_alone, lane_over};
 use crate::tests::support::{in_loop, is_log_of, nothing, only, step, tested};
 use kernel_syntax::{Body, Expr, Op, Stmt};
-use lane_runner::Halt;
+use lane_runner::{Halt, Stop};
 use log_format::{Kind, Record};
 use std::alloc::Global;
 use std::marker::Send;
@@ -211,7 +211,7 @@ fn a_stop_in_a_critical_section_puts_no_more(rt: HostRuntime) {
         &rt, "memory",
     );
     let left = alone(&rt, alloc, &lane_over(8, 0), section).expect(&rt, "memory");
-    assert!(rt; matches!(left.halt, Some(Halt::Index { line: 5 })));
+    assert!(rt; matches!(left.halt, Some(Halt::Own(Stop::Index { line: 5 }))));
     assert!(rt; is_log_of(left.log.bytes(), &[step(Kind::Lock, 0, 7)]));
 }
 
@@ -220,7 +220,7 @@ fn an_index_outside_its_array_stops(rt: HostRuntime) {
     let alloc = rt.alloc();
     let outside = store(Expr::Number(8), Expr::Number(1), 5);
     let left = alone(&rt, alloc, &lane_over(8, 1), outside).expect(&rt, "memory");
-    assert!(rt; matches!(left.halt, Some(Halt::Index { line: 5 })));
+    assert!(rt; matches!(left.halt, Some(Halt::Own(Stop::Index { line: 5 }))));
     assert!(rt; is_log_of(left.log.bytes(), &[]));
 }
 
@@ -243,7 +243,7 @@ fn a_zero_divisor_stops(rt: HostRuntime) {
         quotient(alloc).expect(&rt, "memory"),
     )
     .expect(&rt, "memory");
-    assert!(rt; matches!(left.halt, Some(Halt::DivZero { line: 5 })));
+    assert!(rt; matches!(left.halt, Some(Halt::Own(Stop::DivZero { line: 5 }))));
     assert!(rt; is_log_of(left.log.bytes(), &[]));
 }
 
@@ -326,7 +326,7 @@ fn left_failing<R: Threads + Wait + Copy + Send + 'static>(
 
 // Whether a lane stopped since its log failed, or went on, and left so many of these bytes.
 fn is_left(left: &Left, stops: bool, all: &[u8], length: usize) -> bool {
-    let failed = matches!(left.halt, Some(Halt::Trouble(Trouble::Failed)));
+    let failed = matches!(left.halt, Some(Halt::Own(Stop::Trouble(Trouble::Failed))));
     let bytes = left.log.bytes();
     failed == stops
         && left.halt.is_some() == stops

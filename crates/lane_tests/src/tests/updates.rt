@@ -10,7 +10,7 @@ use crate::tests::one_lane::{Left, accessed, alone, goes_on_alone, lane_over};
 use crate::tests::statements::{binary, critical, first};
 use crate::tests::support::{in_loop, is_log_of, only, step};
 use kernel_syntax::{Expr, Op, Stmt};
-use lane_runner::Halt;
+use lane_runner::{Halt, Stop};
 use log_format::Kind;
 use std::alloc::Global;
 use std::marker::Send;
@@ -166,14 +166,14 @@ fn the_index_comes_first_then_the_amount_then_the_test_of_the_index(rt: HostRunt
     let zero = divided(alloc).expect(&rt, "memory");
     let read = first(alloc).expect(&rt, "memory");
     let by_index = left_by(&rt, alloc, zero, read).expect(&rt, "memory");
-    assert!(rt; matches!(by_index.halt, Some(Halt::DivZero { line: 5 })));
+    assert!(rt; matches!(by_index.halt, Some(Halt::Own(Stop::DivZero { line: 5 }))));
     assert!(rt; is_log_of(by_index.log.bytes(), &[]));
     let zero = divided(alloc).expect(&rt, "memory");
     let by_amount = left_by(&rt, alloc, Expr::Number(8), zero).expect(&rt, "memory");
-    assert!(rt; matches!(by_amount.halt, Some(Halt::DivZero { line: 5 })));
+    assert!(rt; matches!(by_amount.halt, Some(Halt::Own(Stop::DivZero { line: 5 }))));
     let read = first(alloc).expect(&rt, "memory");
     let by_test = left_by(&rt, alloc, Expr::Number(-1), read).expect(&rt, "memory");
-    assert!(rt; matches!(by_test.halt, Some(Halt::Index { line: 7 })));
+    assert!(rt; matches!(by_test.halt, Some(Halt::Own(Stop::Index { line: 7 }))));
     assert!(rt; is_log_of(by_test.log.bytes(), &[accessed(Kind::Read, 8, 0, 0)]));
 }
 

@@ -1,5 +1,5 @@
+ghost use Rattle.log_format.specs.Fitting.{IsWidth};
 ghost use Rattle.std.specs.Prelude.{◌+◌, ◌^◌, ◌≤◌};
-ghost use Rattle.log_format.specs.Table.{IsAccessSize};
 
 use mutex_set::Held;
 use std::alloc::Global;

@@ -6,7 +6,7 @@ use Rattle.log_walk.specs.Sweep.{GivesRegion, HasSwept, HasSweptAll}
 use Rattle.log_walk.specs.declared.sweep.Sweep.{Sweep}
 use Rattle.log_walk.proofs.WalkMoves.{WalkedTo, walked_more}
 use Rattle.sw_base.specs.Environment.{Content, FolderState}
-use Rattle.explain.specs.Suspects.{IsOnLines, Keeps}
+use Rattle.explain.specs.Suspects.{IsOnLines, KeepsRuns}
 use Rattle.explain.proofs.Answering.{none_is_some}
 use Rattle.explain.proofs.Kept.{holds_accesses, keeps_more}
 use Rattle.explain.proofs.explaining.swept.Goals as goal
@@ -27,7 +27,7 @@ regions-init g c =
     record {
       all = c.in_ok-sweep.root.items;
       so = record { trace = b.root ∷ []; swept = b.swept; in_order = b.gives.in_order };
-      keeps = subst (λ (xs : List Segment). Keeps (IsOnLines c.args.lines) xs c.keep_lines.new.kept.items) c.deref.ensures.value c.in_ok-keep_lines.ensures.keeps;
+      keeps = subst (λ (xs : List Segment). KeepsRuns (IsOnLines c.args.lines) xs c.keep_lines.new.kept.items) c.deref.ensures.value c.in_ok-keep_lines.ensures.keeps;
       fresh = λ e refused. none_is_some e (sym b.fresh ∙ refused);
       same = c.in_ok-sweep.ensures.reads.same;
       no_fault = search rules;
@@ -43,7 +43,7 @@ regions-preserved g c =
       so = walked_more (g.F.Folder.state c.args.folder.now).content c.args.dir.now c.regions.sweep c.next.new.self c.regions.invariant.all c.in-Some.region.items so
           (subst (λ (t : Option Content). GivesRegion FORMAT t c.args.dir.now c.regions.sweep c.next.new.self so.trace c.in-Some.region.items) (same_content c.regions.invariant.same) gives);
       keeps = keeps_more c.args.lines c.regions.invariant.all c.in-Some.region.items c.regions.kept.items c.keep_lines-in-Some.new.kept.items c.in_ok-keep_lines-2.ensures.old c.regions.invariant.keeps
-          (subst (λ (xs : List Segment). Keeps (IsOnLines c.args.lines) xs c.keep_lines-in-Some.new.kept.items) c.deref-in-Some.ensures.value c.in_ok-keep_lines-2.ensures.keeps);
+          (subst (λ (xs : List Segment). KeepsRuns (IsOnLines c.args.lines) xs c.keep_lines-in-Some.new.kept.items) c.deref-in-Some.ensures.value c.in_ok-keep_lines-2.ensures.keeps);
       fresh = c.in_ok-region.ensures.next.unrefused;
       same = c.in_ok-region.ensures.reads.same ∙ c.regions.invariant.same;
       no_fault = search rules;

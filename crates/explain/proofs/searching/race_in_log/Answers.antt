@@ -6,7 +6,7 @@ use Rattle.race_model.specs.Row.{Row}
 use Rattle.explain.specs.Finding.{IsPlaceAfter, MayFollow}
 use Rattle.explain.specs.Least.{FindsPartner, HasNoPartner}
 use Rattle.explain.specs.declared.finding.Found.{Found}
-use Rattle.explain.specs.declared.searching.Partner.{Partner}
+use Rattle.explain.specs.declared.searching.FoundPartner.{FoundPartner}
 use Rattle.explain.proofs.Answering.{not_so}
 use Rattle.explain.proofs.Hits.{no_race_here, race_here}
 use Rattle.explain.proofs.Logs.{log_of, path_of, row_of_place}
@@ -42,7 +42,7 @@ records-preserved g c = record {
       let tells = next_tells s c.in-Some.next c.next_record.new.reader c.found_at-one.result gives c.found_at-one.ensures in
       let finds = c.in_ok-partner.ensures.finds x (ap (λ s. s.content) c.in_ok-next.ensures.reads.same ∙ now) trace run all (next_node s) (next_in_log s) (number_of s) tells in
       scans_next s c.in-Some.next c.next_record.new.reader c.pass.new.self gives
-      (subst (λ (o : Option Partner). FindsPartner trace c.args.lines c.args.first (next_node s) o) c.in_default-partner.is finds)
+      (subst (λ (o : Option FoundPartner). FindsPartner trace c.args.lines c.args.first (next_node s) o) c.in_default-partner.is finds)
       (λ may. subst (λ (f : Found). IsPlaceAfter c.pass.new.self (s.given ++ f.event ∷ [])) c.found_at-one.ensures (c.pass.ensures.after s.given s.after (subst (λ (f : Found). MayFollow c.records.place.held f.event) (sym c.found_at-one.ensures) may)));
   room =
       let room = c.records.invariant.room in
@@ -60,7 +60,7 @@ returns-in-Some-partner-clause-finds g c = λ x told trace run all.
     let tells = next_tells s c.in-Some.next c.next_record.new.reader c.found_at-one.result gives c.found_at-one.ensures in
     let finds = c.in_ok-partner.ensures.finds x (ap (λ s. s.content) c.in_ok-next.ensures.reads.same ∙ now) trace run all (next_node s) (next_in_log s) (number_of s) tells in
     race_here c.args.lines s c.race_pair.result c.in-Some-partner.partner c.race_pair.ensures.first_row c.race_pair.ensures.first c.race_pair.ensures.partner
-    (subst (λ (o : Option Partner). FindsPartner trace c.args.lines c.args.first (next_node s) o) c.in-Some-partner.is finds)
+    (subst (λ (o : Option FoundPartner). FindsPartner trace c.args.lines c.args.first (next_node s) o) c.in-Some-partner.is finds)
 
 pub returns-clause-finds : goal.returns-clause-finds
 returns-clause-finds g c = λ x told trace run all.

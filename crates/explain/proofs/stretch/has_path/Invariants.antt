@@ -1,7 +1,7 @@
 use Rattle.std.proofs.Common.{◌≡◌, ◌<◌, ℕ, Some}
 use Rattle.std.specs.Prelude.{slice_get}
-use Rattle.explain.specs.declared.stretch.Stretch.{Stretch}
+use Rattle.explain.specs.declared.stretch.RecordRange.{RecordRange}
 use Rattle.explain.proofs.stretch.has_path.Given as goal
 
 abbrev pub invariant-loop-stretch : goal.invariant-loop-stretch
-invariant-loop-stretch l = (k : ℕ) (s : Stretch) → k < l.stretch-index → slice_get l.stretches k ≡ Some s → s.path ≡ l.path → ⊥
+invariant-loop-stretch l = (k : ℕ) (s : RecordRange) → k < l.stretch-index → slice_get l.stretches k ≡ Some s → s.path ≡ l.path → ⊥

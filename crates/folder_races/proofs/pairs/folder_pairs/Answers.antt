@@ -1,9 +1,11 @@
-use Rattle.std.proofs.Common.{◌≡◌, ℕ, List, [], ◌++◌, Option, ap, sym, subst, ◌∙◌, arith, rules}
+use Rattle.std.proofs.Common.{◌≡◌, ℕ, ◌+◌, List, [], ◌++◌, length, Option, ap, sym, subst, ◌∙◌, arith, rules}
+use Rattle.std.proofs.lemmas.List.Sums.{sum_by-append}
 use Rattle.std.proofs.lemmas.Result.{err_from_is_err_and}
 use Rattle.log_format.specs.declared.format.TheConstants.{FORMAT}
 use Rattle.sw_base.specs.Environment.{Content, FolderState}
 use Rattle.log_segment.specs.declared.segment.Segment.{Segment}
 use Rattle.log_walk.specs.Sweep.{GivesRegion, HasSwept, HasSweptAll}
+use Rattle.folder_races.specs.Waiting.{size_of}
 use Rattle.folder_races.proofs.Sweeping.{SweptPairs, SweptPairs-all, SweptPairs-compared, SweptPairs-next, SweptPairs-start}
 use Rattle.folder_races.proofs.pairs.folder_pairs.Goals as goal
 
@@ -18,6 +20,9 @@ regions-init g c = record {
       subst (λ (pairs : List (ℕ × ℕ)). SweptPairs (g.F.Folder.state c.args.folder.now).content c.args.dir.now c.in_ok-sweep.sweep pairs c.new-waiting.result.items) (sym keys)
       (subst (λ (waiting : List Segment). SweptPairs (g.F.Folder.state c.args.folder.now).content c.args.dir.now c.in_ok-sweep.sweep [] waiting) (sym none)
       (SweptPairs-start _ _ _ _ c.in_ok-sweep.ensures.begins));
+  counted = ap size_of (let none : c.new-waiting.result.items ≡ [] = search rules in none);
+  few = omega arith;
+  most = omega arith;
   fresh = λ e is. let none_yet = c.in_ok-sweep.ensures.begins.fresh in absurd (cc (none_yet, is));
   same = c.in_ok-sweep.ensures.reads.same;
   no_fault = search rules;
@@ -43,6 +48,9 @@ regions-preserved g c = record {
       let none : c.compare.new.waiting.items ≡ [] = search rules in
       subst (λ (waiting : List Segment). SweptPairs (g.F.Folder.state c.args.folder.now).content c.args.dir.now c.next_by.new.self c.compare.new.pairs.keys waiting) (sym none)
       (SweptPairs-compared (g.F.Folder.state c.args.folder.now).content c.args.dir.now c.next_by.new.self c.regions.pairs.keys c.compare.new.pairs.keys c.append.new.self.items waits c.in_ok-compare.ensures.added);
+  counted = ap size_of (let none : c.compare.new.waiting.items ≡ [] = search rules in none);
+  few = omega arith;
+  most = c.next_limit-limit.ensures;
   fresh = c.in_ok-segments.ensures.next.unrefused;
   same = c.in_ok-segments.ensures.reads.same ∙ c.regions.invariant.same;
   no_fault = search rules;
@@ -59,6 +67,16 @@ regions-preserved-then-number-limit g c = record {
       let appended : c.append.new.self.items ≡ c.regions.waiting.items ++ c.in-Some.segments.items = search rules in
       let waits = subst (λ (waiting : List Segment). SweptPairs (g.F.Folder.state c.args.folder.now).content c.args.dir.now c.next_by.new.self c.regions.pairs.keys waiting) (sym appended) next in
       waits;
+  counted =
+      (let inv = c.regions.invariant in
+      let appended : c.append.new.self.items ≡ c.regions.waiting.items ++ c.in-Some.segments.items = search rules in
+      let sizes = ap size_of appended ∙ sum_by-append (λ (s : Segment). length s.runs.items + 1) c.regions.waiting.items c.in-Some.segments.items in
+      let here = ap size_of c.deref.ensures.value in
+      let more = c.count.ensures in
+      let added = c.saturating_add-number.ensures in
+      omega (arith, inv.counted, inv.most, sizes, here, more, added, c.if-number-limit.true));
+  few = c.if-number-limit.true;
+  most = c.regions.invariant.most;
   fresh = c.in_ok-segments.ensures.next.unrefused;
   same = c.in_ok-segments.ensures.reads.same ∙ c.regions.invariant.same;
   no_fault = search rules;

@@ -7,7 +7,7 @@ use Rattle.kernel_text.specs.declared.token.Word.TheVariants as word
 use Rattle.kernel_text.specs.Grammar.{named, reserved, Barrier}
 use Rattle.kernel_parser.specs.declared.tree.Statement.TheVariants as variant
 use Rattle.kernel_text.specs.declared.token.Lexeme.TheVariants.{Reserved}
-use Rattle.kernel_parser.specs.Parsing.{StartsWith, IsRead}
+use Rattle.kernel_parser.specs.Parsing.{StartsWith, IsStatementRead}
 use Rattle.kernel_parser.proofs.Equations.{before_if, before_if_else, before_loop, before_for, before_barrier, before_critical, made_parallel, made_critical_of}
 use Rattle.kernel_parser.proofs.Signs.{begins-with, not-true}
 use Rattle.kernel_parser.proofs.Firsts.{let-parsed, assign-parsed, store-parsed, update-parsed, if-parsed, loop-parsed, parallel-parsed, for-parsed, barrier-parsed, critical-parsed}
@@ -193,7 +193,7 @@ stmt-returns-in-Critical-clause-parsed t c =
 
 pub stmt-returns-in-Barrier-clause-parsed : goal.stmt-returns-in-Barrier-clause-parsed
 stmt-returns-in-Barrier-clause-parsed t c =
-    let read : IsRead (Barrier c.args.token.now.line) c.args.rest.now (variant.Barrier c.args.token.now.line) c.args.rest.now = (λ rest. before_barrier c.args.token.now.line rest, refl) in
+    let read : IsStatementRead (Barrier c.args.token.now.line) c.args.rest.now (variant.Barrier c.args.token.now.line) c.args.rest.now = (λ rest. before_barrier c.args.token.now.line rest, refl) in
     λ b end tail n e d s. barrier-parsed c.args.token.now c.args.rest.now (Ok (variant.Barrier c.args.token.now.line, c.args.rest)) read (λ b end tail e. ap Some (sym c.in-Barrier.is) ∙ c.requires b end tail e) b end tail n e d s
 
 pub block-returns-in_default-lead_of-clause-parsed : goal.block-returns-in_default-lead_of-clause-parsed

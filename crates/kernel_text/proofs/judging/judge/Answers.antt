@@ -3,7 +3,7 @@ use Rattle.std.proofs.lemmas.List.{nil_from_length}
 use Rattle.std.proofs.lemmas.Bool.{eqb-false, eqb-true}
 use Rattle.kernel_text.specs.declared.judging.Want.TheVariants as want
 use Rattle.kernel_text.specs.Wanting.{stack_of}
-use Rattle.kernel_text.proofs.Judgement.{stack_some, judged-none, judged-more, is-kernel, is-syntax, is-deep, is-early}
+use Rattle.kernel_text.proofs.JudgingTokens.{stack_some, judged-none, judged-more, is-kernel, is-syntax, is-deep, is-early}
 use Rattle.kernel_text.proofs.judging.judge.Goals as goal
 
 pub tokens-init : goal.tokens-init

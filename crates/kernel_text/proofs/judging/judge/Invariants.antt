@@ -1,6 +1,6 @@
 use Rattle.std.proofs.Common.{length}
 use Rattle.kernel_text.specs.Wanting.{stack_of}
-use Rattle.kernel_text.proofs.Judgement.{Judged}
+use Rattle.kernel_text.proofs.JudgingTokens.{Judged}
 use Rattle.kernel_text.proofs.judging.judge.Given as goal
 
 abbrev pub invariant-tokens : goal.invariant-tokens

@@ -1,4 +1,4 @@
-use Rattle.std.proofs.Common.{All, ◌≡◌, ◌≤◌}
+use Rattle.std.proofs.Common.{All, ◌≡◌}
 use Rattle.race_model.specs.Trace.{Trace}
 use Rattle.log_walk.specs.Ahead.{IsAhead}
 use Rattle.log_walk.specs.Stack.{IsStackAfter}

@@ -1,4 +1,4 @@
-use Rattle.std.proofs.Common.{rules, ◌++◌, sym, subst, ◌∙◌, arith, ap}
+use Rattle.std.proofs.Common.{rules, ◌++◌, sym, subst, ◌∙◌, ap}
 use Rattle.std.proofs.lemmas.Result.{err_from_is_err_and}
 use Rattle.sw_base.specs.Environment.{FolderState}
 use Rattle.log_walk.specs.Sweep.{HasSwept, HasSweptAll}

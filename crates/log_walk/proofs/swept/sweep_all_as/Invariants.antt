@@ -1,4 +1,4 @@
-use Rattle.std.proofs.Common.{◌≡◌, ◌≤◌}
+use Rattle.std.proofs.Common.{◌≡◌}
 use Rattle.race_model.specs.Trace.{Trace}
 use Rattle.log_walk.specs.Sweep.{HasRefused, HasSwept, logs_left}
 use Rattle.log_walk.specs.declared.fault.WalkFault.{WalkFault}

@@ -1,7 +1,12 @@
-use Rattle.std.proofs.Common.{[], get_or}
+use Rattle.std.proofs.Common.{[], get_or, arith}
 use Rattle.std.proofs.lemmas.Option.{slice_get-get_or}
 use Rattle.race_model.specs.Row.{Row}
 use Rattle.log_walk.proofs.taking.walk_next.Goals as goal
+
+pub take_over-requires-clause-from : goal.take_over-requires-clause-from
+take_over-requires-clause-from g c =
+    let read = c.in-Some.ensures.is c.args.format (g.F.Folder.state c.args.folder.now).content c.args.dir.now c.requires.ahead in
+    omega (arith, read.checks.good.sum)
 
 pub take_over-requires-clause-fits : goal.take_over-requires-clause-fits
 take_over-requires-clause-fits g c =

@@ -1,5 +1,5 @@
 use Rattle.std.proofs.Common.{rules, ◌≡◌, subst}
-use Rattle.lane_runner.specs.Handed.{place_of}
+use Rattle.lane_runner.specs.Handed.{log_place}
 use Rattle.region_runner.specs.Opening.{AllOpen, OneTorn}
 use Rattle.region_runner.proofs.OpenedLogs.{all_begin, one_torn}
 use Rattle.region_runner.proofs.opening.open.Goals as goal
@@ -7,7 +7,7 @@ use Rattle.region_runner.proofs.opening.open.Goals as goal
 pub returns-in-Some-lanes_of : goal.returns-in-Some-lanes_of
 returns-in-Some-lanes_of g c = record {
   opens = λ task path size new. (
-    all_begin (place_of task) c.args.at.now c.args.number c.args.span c.args.locals.now.slots.items c.args.share.now c.in-Some.opened.items c.in-Some.ensures.count (c.in-Some.ensures.opens task path size new) c.in-Some-lanes_of.lanes.items
+    all_begin (log_place task) c.args.at.now c.args.number c.args.span c.args.locals.now.slots.items c.args.share.now c.in-Some.opened.items c.in-Some.ensures.count (c.in-Some.ensures.opens task path size new) c.in-Some-lanes_of.lanes.items
         c.in-Some-lanes_of.ensures,
     c.in-Some.ensures.share,
   );
@@ -19,7 +19,7 @@ returns-in-Some-closed_of g c =
     let torn = subst (λ opened. OneTorn opened) seen (c.all_open.ensures.some c.if-all_open.false) in
     record {
       opens = λ task path size new. (
-        one_torn (place_of task) c.args.at.now c.args.number c.args.span c.args.locals.now.slots.items c.args.share.now c.in-Some.opened.items c.in-Some.ensures.count (c.in-Some.ensures.opens task path size new)
+        one_torn (log_place task) c.args.at.now c.args.number c.args.span c.args.locals.now.slots.items c.args.share.now c.in-Some.opened.items c.in-Some.ensures.count (c.in-Some.ensures.opens task path size new)
             c.in-Some-closed_of.lanes.items c.in-Some-closed_of.ensures.0 c.in-Some-closed_of.ensures.1 torn,
         c.in-Some.ensures.share,
       );

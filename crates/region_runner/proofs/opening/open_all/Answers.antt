@@ -9,7 +9,7 @@ use Rattle.race_model.specs.Listing.{lane_of}
 use Rattle.shared_words.specs.declared.share.Share.{Share}
 use Rattle.shared_words.specs.Handles.{Belongs, HandValue}
 use Rattle.lane_runner.specs.Children.{IsNewLog}
-use Rattle.lane_runner.specs.Handed.{LogPlace, place_of}
+use Rattle.lane_runner.specs.Handed.{LogPlace, log_place}
 use Rattle.region_runner.specs.Gathering.{ClosedValue}
 use Rattle.lane_runner.specs.Lane.{IsLanePath, LaneValue}
 use Rattle.lane_runner.proofs.LanePaths.{lane_path}
@@ -101,12 +101,12 @@ loop-log-preserved g c =
           lent_more (length c.loop-log.yielded) c.args.share.now c.loop-log.share c.split-draws.new.hand c.loop-log.invariant.share c.split-draws.ensures.kept
           ∙ ap (λ (n : ℕ). lent_to n c.args.share.now) (sym more);
       opens = λ task path_is size_is new k d less.
-          subst (λ (xs : List (Result LaneValue ClosedValue)). OpensAs (place_of task) (lane_of c.args.at.now c.args.number k c.args.span) c.args.locals.now.slots.items (lent_hand c.args.share.now) (slice_index_or xs k d)) (sym pushed)
-          (opens_more (place_of task) c.args.at.now c.args.number c.args.span c.args.locals.now.slots.items (lent_hand c.args.share.now) (length c.loop-log.yielded) c.loop-log.opened.items c.open_lane.result c.loop-log.invariant.count
+          subst (λ (xs : List (Result LaneValue ClosedValue)). OpensAs (log_place task) (lane_of c.args.at.now c.args.number k c.args.span) c.args.locals.now.slots.items (lent_hand c.args.share.now) (slice_index_or xs k d)) (sym pushed)
+          (opens_more (log_place task) c.args.at.now c.args.number c.args.span c.args.locals.now.slots.items (lent_hand c.args.share.now) (length c.loop-log.yielded) c.loop-log.opened.items c.open_lane.result c.loop-log.invariant.count
           (c.loop-log.invariant.opens task path_is size_is new)
           (let is_new : IsNewLog {T = g.row.L.Denot} seen task c.args.number c.args.span (length c.loop-log.yielded) c.in-Some.log =
           subst (λ (log : g.row.L.Denot). IsNewLog {T = g.row.L.Denot} seen task c.args.number c.args.span (length c.loop-log.yielded) log) (sym turn.1) (new.each (length c.loop-log.yielded) c.in-Some.log turn.0) in
-          let place : record { dir = g.L.Log.dir c.in-Some.log; size = c.size.result; tells = is_some (g.L.Log.text c.in-Some.log) } ≡ place_of task =
+          let place : record { dir = g.L.Log.dir c.in-Some.log; size = c.size.result; tells = is_some (g.L.Log.text c.in-Some.log) } ≡ log_place task =
           λ i. record { dir = is_new.dir i; size = (c.size.ensures.is ∙ sym size_is) i; tells = is_new.tells i } in
           let own : c.child-own.result ≡ lane_of c.args.at.now c.args.number (length c.loop-log.yielded) c.args.span =
           c.child-own.ensures ∙ ap (λ (n : ℕ). lane_of c.args.at.now c.args.number n c.args.span) c.loop-log.invariant.lane in

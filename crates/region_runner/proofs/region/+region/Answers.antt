@@ -4,7 +4,7 @@ use Rattle.sw_base.specs.declared.path.Step.{Step}
 use Rattle.kernel_syntax.specs.Tree.{TeamTree}
 use Rattle.shared_words.specs.Handles.{WordsValue, Belongs, HandValue}
 use Rattle.lane_runner.specs.Children.{AreNewLogs}
-use Rattle.lane_runner.specs.Handed.{entries_of, place_of}
+use Rattle.lane_runner.specs.Handed.{entries_of, log_place}
 use Rattle.lane_runner.specs.Forking.{IsReady, RanRegion}
 use Rattle.region_runner.specs.LastPhase.{IsLast}
 use Rattle.region_runner.specs.Crew.{CrewValue, world_of}
@@ -323,7 +323,7 @@ region-run_team-lanes-requires-clause-count g n c κs within =
 pub region-run_team-lanes-requires-clause-fresh : goal.region-run_team-lanes-requires-clause-fresh
 region-run_team-lanes-requires-clause-fresh g n c κs within = λ i d less.
     let opened = (c.in-Team.ensures.opens c.requires.logs.task c.requires.logs.path_is c.requires.logs.size_is c.requires.logs.new).0 in
-    lane_fresh (place_of c.requires.logs.task) (lane_of c.args.path.now c.args.number i c.args.team.now.span) c.args.locals.now.slots.items c.in-Ok.share c.crew-crew.result (slice_index_or c.in-Team.lanes.items i d)
+    lane_fresh (log_place c.requires.logs.task) (lane_of c.args.path.now c.args.number i c.args.team.now.span) c.args.locals.now.slots.items c.in-Ok.share c.crew-crew.result (slice_index_or c.in-Team.lanes.items i d)
     (ap (λ (h : HandValue Share). h.table) c.in-Ok.ensures.hand ∙ sym (ap (λ (v : CrewValue). v.chunks.table) c.crew-crew.ensures)) (opened.each i d (let count = opened.count in omega (arith, less, count)))
 
 pub region-run_team-lanes-requires-clause-own : goal.region-run_team-lanes-requires-clause-own
@@ -354,14 +354,14 @@ region-gather-requires-clause-own g n c κs within = λ k d less.
       | region-in-Team w ↦
           let lanes = ap (λ (v : Vec ClosedValue Global). v.items) w.lanes-is in
           subst (λ (ls : List ClosedValue). Belongs (slice_index_or ls k d).draws c.in-Ok.chunks.table) (sym lanes)
-          (team_returned w.crew-crew.result (team_of c.args.team.now) c.args.locals.now.slots.items w.deref-in-Team.result.now c.args.hand.now w.run_team-lanes.new.hand w.in-Team.lanes.items (place_of c.requires.logs.task) c.args.path.now c.args.number c.in-Ok.share
+          (team_returned w.crew-crew.result (team_of c.args.team.now) c.args.locals.now.slots.items w.deref-in-Team.result.now c.args.hand.now w.run_team-lanes.new.hand w.in-Team.lanes.items (log_place c.requires.logs.task) c.args.path.now c.args.number c.in-Ok.share
           w.run_team-lanes.result.items (ap (λ (v : CrewValue). v.span) w.crew-crew.ensures)
           (subst (λ (ps : List (List Item)). (at : Site) (s : State) → run_parts at (parts_in ps) s ≡ run at (team_of c.args.team.now).body s) (sym w.deref-in-Team.ensures.value) c.in-Ok-Ok.ensures.runs)
           w.run_team-lanes.ensures.closed (w.in-Team.ensures.opens c.requires.logs.task c.requires.logs.path_is c.requires.logs.size_is c.requires.logs.new).0 c.in-Ok.chunks.table here k d (subst (λ (ls : List ClosedValue). k < length ls) lanes less)).belongs
       | region-in-Torn w ↦
           let lanes = ap (λ (v : Vec ClosedValue Global). v.items) w.lanes-is in
           subst (λ (ls : List ClosedValue). Belongs (slice_index_or ls k d).draws c.in-Ok.chunks.table) (sym lanes)
-          (torn_returned c.in-Ok.chunks.table (place_of c.requires.logs.task) c.args.path.now c.args.number c.args.team.now.span c.in-Ok.share w.in-Torn.lanes.items here (w.in-Torn.ensures.opens c.requires.logs.task c.requires.logs.path_is c.requires.logs.size_is c.requires.logs.new).0 k d (subst (λ (ls : List ClosedValue). k < length ls) lanes less)).belongs
+          (torn_returned c.in-Ok.chunks.table (log_place c.requires.logs.task) c.args.path.now c.args.number c.args.team.now.span c.in-Ok.share w.in-Torn.lanes.items here (w.in-Torn.ensures.opens c.requires.logs.task c.requires.logs.path_is c.requires.logs.size_is c.requires.logs.new).0 k d (subst (λ (ls : List ClosedValue). k < length ls) lanes less)).belongs
     ]
 
 pub region-gather-requires-clause-split : goal.region-gather-requires-clause-split
@@ -371,14 +371,14 @@ region-gather-requires-clause-split g n c κs within = λ k d less.
       | region-in-Team w ↦
           let lanes = ap (λ (v : Vec ClosedValue Global). v.items) w.lanes-is in
           subst (λ (ls : List ClosedValue). (slice_index_or ls k d).draws.view.first ≡ false) (sym lanes)
-          (team_returned w.crew-crew.result (team_of c.args.team.now) c.args.locals.now.slots.items w.deref-in-Team.result.now c.args.hand.now w.run_team-lanes.new.hand w.in-Team.lanes.items (place_of c.requires.logs.task) c.args.path.now c.args.number c.in-Ok.share
+          (team_returned w.crew-crew.result (team_of c.args.team.now) c.args.locals.now.slots.items w.deref-in-Team.result.now c.args.hand.now w.run_team-lanes.new.hand w.in-Team.lanes.items (log_place c.requires.logs.task) c.args.path.now c.args.number c.in-Ok.share
           w.run_team-lanes.result.items (ap (λ (v : CrewValue). v.span) w.crew-crew.ensures)
           (subst (λ (ps : List (List Item)). (at : Site) (s : State) → run_parts at (parts_in ps) s ≡ run at (team_of c.args.team.now).body s) (sym w.deref-in-Team.ensures.value) c.in-Ok-Ok.ensures.runs)
           w.run_team-lanes.ensures.closed (w.in-Team.ensures.opens c.requires.logs.task c.requires.logs.path_is c.requires.logs.size_is c.requires.logs.new).0 c.in-Ok.chunks.table here k d (subst (λ (ls : List ClosedValue). k < length ls) lanes less)).split
       | region-in-Torn w ↦
           let lanes = ap (λ (v : Vec ClosedValue Global). v.items) w.lanes-is in
           subst (λ (ls : List ClosedValue). (slice_index_or ls k d).draws.view.first ≡ false) (sym lanes)
-          (torn_returned c.in-Ok.chunks.table (place_of c.requires.logs.task) c.args.path.now c.args.number c.args.team.now.span c.in-Ok.share w.in-Torn.lanes.items here (w.in-Torn.ensures.opens c.requires.logs.task c.requires.logs.path_is c.requires.logs.size_is c.requires.logs.new).0 k d (subst (λ (ls : List ClosedValue). k < length ls) lanes less)).split
+          (torn_returned c.in-Ok.chunks.table (log_place c.requires.logs.task) c.args.path.now c.args.number c.args.team.now.span c.in-Ok.share w.in-Torn.lanes.items here (w.in-Torn.ensures.opens c.requires.logs.task c.requires.logs.path_is c.requires.logs.size_is c.requires.logs.new).0 k d (subst (λ (ls : List ClosedValue). k < length ls) lanes less)).split
     ]
 
 pub region-returns : goal.region-returns
@@ -398,16 +398,16 @@ region-returns g n c = record {
             (arrays ∙ sym (ap (λ (v : CrewValue). v.arrays) b.crew-crew.ensures)) (ap (λ (v : CrewValue). v.span) b.crew-crew.ensures) lawful.span.some
             (subst (λ (ps : List (List Item)). (at : Site) (s : State) → run_parts at (parts_in ps) s ≡ run at team.body s) (sym b.deref-in-Team.ensures.value) c.in-Ok-Ok.ensures.runs)
             (subst (λ (ls : List ClosedValue). TeamClosed b.crew-crew.result b.deref-in-Team.result.now team.end c.args.hand.now b.run_team-lanes.new.hand b.in-Team.lanes.items ls) (sym lanes) b.run_team-lanes.ensures.closed)
-            (subst (λ (p : List Step). AreLanes (place_of task) p c.args.number team.span slots c.in-Ok.share b.in-Team.lanes.items) (sym at) opened.0) (same_chunks lawful.names team slots lawful.scoped lawful.even) c.gather.ensures.gathered opened.1
+            (subst (λ (p : List Step). AreLanes (log_place task) p c.args.number team.span slots c.in-Ok.share b.in-Team.lanes.items) (sym at) opened.0) (same_chunks lawful.names team slots lawful.scoped lawful.even) c.gather.ensures.gathered opened.1
             c.gather.ensures.share c.gather.ensures.all)
         | region-in-Torn b ↦
             let lanes = ap (λ (v : Vec ClosedValue Global). v.items) b.lanes-is in
             let opened = b.in-Torn.ensures.opens task at size new in
-            let torn = subst (λ (ls : List ClosedValue). AreTorn (place_of task) c.args.path.now c.args.number team.span c.in-Ok.share ls) (sym lanes) opened.0 in
+            let torn = subst (λ (ls : List ClosedValue). AreTorn (log_place task) c.args.path.now c.args.number team.span c.in-Ok.share ls) (sym lanes) opened.0 in
             let e = head_of c.match-open.lanes.items (let count = torn.count in let some = lawful.span.some in omega (arith, count, some)) in
             subst (λ (h : HandValue View). RanRegion w team slots task c.args.number c.args.hand.now h before after c.gather.result) (sym b.hand-is)
             (torn_region w team slots task c.args.number c.args.hand.now c.in-Ok.share c.match-open.lanes.items before after c.gather.result e c.requires.ready.free.belongs.there
-            (subst (λ (p : List Step). AreTorn (place_of task) p c.args.number team.span c.in-Ok.share c.match-open.lanes.items) (sym at) torn)
+            (subst (λ (p : List Step). AreTorn (log_place task) p c.args.number team.span c.in-Ok.share c.match-open.lanes.items) (sym at) torn)
             (subst (λ (n : ℕ). Gathered n (λ k. slice_index_or c.match-open.lanes.items k e) before after c.gather.result) torn.count (c.gather.ensures.gathered e)))
       ];
 }

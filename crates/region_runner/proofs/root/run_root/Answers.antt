@@ -1,12 +1,13 @@
 use Rattle.std.proofs.Common.{◌≡◌, ◌∙◌, refl, sym, subst, ◌≤◌, List, [], ℤ, ℕ, arith}
 use Rattle.std.specs.Prelude.{is_some, length}
+use Rattle.log_format.specs.Limit.{record_limit}
 use Rattle.kernel_syntax.specs.Program.{program_of}
 use Rattle.kernel_model.specs.declared.phase.Item.{Item}
 use Rattle.kernel_model.specs.Folder.{root_start}
 use Rattle.kernel_model.specs.Parts.{run_parts}
 use Rattle.kernel_model.specs.Phases.{parts_in}
 use Rattle.kernel_model.specs.State.{State}
-use Rattle.kernel_model.specs.Trace.{run, log_limit}
+use Rattle.kernel_model.specs.Trace.{run}
 use Rattle.kernel_model.specs.Value.{Site}
 use Rattle.shared_words.specs.declared.share.Share.{Share}
 use Rattle.shared_words.specs.Handles.{Belongs, HandValue}
@@ -71,7 +72,7 @@ returns-in-Ok g c =
           begins
           (task_fresh place [] (root_start program).slots c.in-Ok-Ok-Ok.draws crew c.in-Ok.root
           (subst (λ (h : HandValue Share). Belongs h c.in-Ok-Ok-Ok.chunks.table) (sym c.in-Ok-Ok-Ok.ensures'.hand) (record { here = refl; there = refl }))
-          (subst (λ (h : HandValue Share). log_limit ≤ h.view.left) (sym c.in-Ok-Ok-Ok.ensures'.hand) (omega arith)) begins)
+          (subst (λ (h : HandValue Share). record_limit ≤ h.view.left) (sym c.in-Ok-Ok-Ok.ensures'.hand) (omega arith)) begins)
           c.requires.ready.free.holds_none c.execute.ensures.closed;
     }
 

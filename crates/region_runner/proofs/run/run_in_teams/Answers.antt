@@ -51,7 +51,7 @@ new-ground-requires-after_bounds g c κs within =
     bounded_world program c.in-Ok.words (record { table = c.in-Ok.words.table; loops = 0 }) 0 1 c.requires.lawful.bounded
     (c.in-Ok.ensures.counts.0 ∙ c.element_count.ensures ∙ ap (λ (xs : List Array). elements xs) c.as_slice-arrays.ensures) (omega arith) in
     subst (λ (xs : List Array). IsGround (record { arrays = xs; words = c.in-Ok.words; size = c.args.size })) (sym c.as_slice-arrays.ensures)
-    (record { placed = world.placed; apart = world.apart; size = c.requires.size })
+    (record { count = world.count; placed = world.placed; apart = world.apart; size = c.requires.size })
 
 pub returns-in-Ok-answer : goal.returns-in-Ok-answer
 returns-in-Ok-answer g c =

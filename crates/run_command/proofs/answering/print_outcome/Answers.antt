@@ -1,4 +1,5 @@
 use Rattle.std.proofs.Common.{◌≡◌, refl, sym, ap, Some}
+use Rattle.kernel_model.specs.Stopping.{stop_name}
 use Rattle.command_answer.proofs.Answering.{Tries-from_made, Tries-from_prints, Tries-weaker}
 use Rattle.run_command.specs.declared.outcome.Outcome.TheVariants.{IndexThere, NoKernel, Ran, Refused, Stopped}
 use Rattle.run_command.specs.Outcomes.{IsDue}
@@ -20,8 +21,8 @@ returns-in-IndexThere-clause-prints g c = rw c.in-IndexThere.is (Tries-from_prin
 pub returns-in-Stopped-clause-prints : goal.returns-in-Stopped-clause-prints
 returns-in-Stopped-clause-prints g c =
     rw c.in-Stopped.is
-    (Tries-from_made (IsDue (Stopped c.in-Stopped.path c.in-Stopped.line c.in-Stopped.why)) c.stop_line.result _ (stop_line c.in-Stopped.path c.in-Stopped.line c.in-Stopped.why.now) _ _ _
-    (record { status_is = refl; text_is = refl }) c.stop_line.ensures c.print_made.ensures.prints c.print_made.ensures.silent)
+    (Tries-from_made (IsDue (Stopped c.in-Stopped.path c.in-Stopped.line c.in-Stopped.why)) c.stop_line.result _ (stop_line c.in-Stopped.path c.in-Stopped.line (stop_name c.in-Stopped.why)) _ _ _
+    (record { status_is = refl; text_is = refl }) (rw c.name.ensures at c.stop_line.ensures) c.print_made.ensures.prints c.print_made.ensures.silent)
 
 pub returns-in-Ran-clause-prints : goal.returns-in-Ran-clause-prints
 returns-in-Ran-clause-prints g c =

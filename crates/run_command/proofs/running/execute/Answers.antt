@@ -3,7 +3,7 @@ use Rattle.std.specs.Option.{option_map}
 use Rattle.sw_base.specs.Environment.{Text, empty_text}
 use Rattle.kernel_syntax.specs.Program.{program_of}
 use Rattle.lane_runner.specs.declared.stop.Stop.{Stop}
-use Rattle.lane_runner.specs.Handed.{Entry, entries_of}
+use Rattle.lane_runner.specs.Handed.{HandedEntry, entries_of}
 use Rattle.region_runner.specs.Answer.{HasRun, HasStoppedRun}
 use Rattle.run_command.specs.Seals.{all_logged}
 use Rattle.run_command.proofs.RunEnds.{rose_more, run_rows}
@@ -27,7 +27,7 @@ pub returns-in-Err-run_in_teams-clause-ends : goal.returns-in-Err-run_in_teams-c
 returns-in-Err-run_in_teams-clause-ends g c = λ file old new can is.
     let program = program_of c.args.kernel in
     let stopped = c.in-Err-run_in_teams.stopped in
-    let logs : List Entry = entries_of g.F.Log.Log stopped.logs.items in
+    let logs : List HandedEntry = entries_of g.F.Log.Log stopped.logs.items in
     let told : g.F.Log.Log.text c.in-Ok.root ≡ Some empty_text = c.in-Ok.ensures.log_text ∙ ap (option_map (λ _. empty_text)) is in
     let here = subst (λ (dir : List ℕ). HasStoppedRun program dir c.args.size (g.F.Log.Log.text c.in-Ok.root) logs stopped.path stopped.why stopped.words.items) c.in-Ok.ensures.log_dir c.in-Err-run_in_teams.ensures.answers.stopped in
     let has = subst (λ (text : Option Text). HasStoppedRun program c.args.dir.now c.args.size text logs stopped.path stopped.why stopped.words.items) told here in

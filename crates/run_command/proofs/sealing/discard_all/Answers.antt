@@ -9,6 +9,7 @@ pub loop-log-init : goal.loop-log-init
 loop-log-init g c = record {
   same = refl;
   same_roots = refl;
+  same_reads = refl;
   later = omega arith;
   faulty = faults_none g.F.Log.Log.faults _;
 }
@@ -17,6 +18,7 @@ pub loop-log-preserved : goal.loop-log-preserved
 loop-log-preserved g c = record {
   same = cc;
   same_roots = cc;
+  same_reads = cc;
   later = let taken = c.discard.ensures.log_faults in omega arith;
   faulty = faults_push g.F.Log.Log.faults c.loop-log.yielded _ _ _ (λ rose. let taken = c.discard.ensures.log_faults in omega arith) c.loop-log.invariant.faulty
       (λ own. let rose = c.discard.ensures.log_faults.faulty own in let before = c.loop-log.invariant.later in omega arith);

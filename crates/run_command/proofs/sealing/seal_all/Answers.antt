@@ -10,6 +10,7 @@ loop-log-init g c = record {
   seals = seals_all_none (g.F.Folder.state c.args.folder.now).content;
   tells = refl;
   same_roots = refl;
+  same_reads = refl;
   later = omega arith;
   faulty = faults_none g.F.Log.Log.faults _;
   no_fault = λ all. refl;
@@ -22,6 +23,7 @@ loop-log-preserved g c = record {
       c.loop-log.invariant.seals c.seal_next-outcome.ensures.sealed c.seal_next-outcome.ensures.refused c.seal_next-outcome.ensures.given_up;
   tells = cc;
   same_roots = cc;
+  same_reads = cc;
   later = let taken = c.seal_next-outcome.ensures.log_faults in omega arith;
   faulty = faults_push g.F.Log.Log.faults c.loop-log.yielded _ _ _ (λ rose. let taken = c.seal_next-outcome.ensures.log_faults in omega arith) c.loop-log.invariant.faulty
       (λ own. let rose = c.seal_next-outcome.ensures.log_faults.faulty own in let before = c.loop-log.invariant.later in omega arith);

@@ -5,7 +5,7 @@ use kernel_syntax::{Kernel, Stmt, Team};
 use log_index::Row;
 use log_listing::list;
 use memory_environment::{MemFolder, MemOut};
-use serial_run::{Halt, Lane, Locals, Memory, Pause, Place};
+use serial_run::{Halt, Locals, Pause, SerialLane, SerialMemory, TaskPlace};
 use std::alloc::{AllocError, Global};
 use std::test::Fail;
 use sw_base::{LOG_HEADER, Memory as NoMemory, Path};
@@ -67,9 +67,10 @@ pub(crate) fn put_words(text: &mut String, words: &[u64]) -> Result<(), AllocErr
 // Adds a line for a stop.
 fn put_halt(text: &mut String, halt: Halt) -> Result<(), AllocError> {
     match halt {
-        Halt::DivZero { line } => write!(text, "line {line}: DivZero\n"),
-        Halt::Index { line } => write!(text, "line {line}: Index\n"),
-        Halt::LogFull { line } => write!(text, "line {line}: LogFull\n"),
+        Halt::Stops { why, line } => {
+            let name = why.name();
+            write!(text, "line {line}: {name}\n")
+        }
         Halt::Long => text.push_str("too long\n"),
         Halt::Refused => text.push_str("refused\n"),
         Halt::Memory => text.push_str("no memory\n"),
@@ -95,8 +96,8 @@ fn put_pause(text: &mut String, pause: &Pause<'_>) -> Result<bool, AllocError> {
 // Adds a line for each place where the task stands still and for its stop. Each time that it stands still others add 100 to word 7.
 fn put_stands(
     text: &mut String,
-    lane: &mut Lane<'_>,
-    memory: &mut Memory,
+    lane: &mut SerialLane<'_>,
+    memory: &mut SerialMemory,
 ) -> Result<(), AllocError> {
     for number in 1..=20u64 {
         match lane.resume(memory) {
@@ -123,16 +124,16 @@ fn story(alloc: Global, case: &Case<'_>) -> Result<String, Fail> {
         return Ok(text);
     }
     let arrays = kernel.arrays.as_slice();
-    let place = Place::new(arrays, number, team.span);
+    let place = TaskPlace::new(arrays, number, team.span);
     let locals = Locals {
         slots: vec![in alloc; 0i64; 8]?,
     };
     let log = LOG_HEADER.to_vec(alloc)?;
-    let mut memory = Memory {
+    let mut memory = SerialMemory {
         words: vec![in alloc; 0u64; 8]?,
         left: case.left,
     };
-    let mut lane = Lane::start(alloc, place, team, locals, log)
+    let mut lane = SerialLane::start(alloc, place, team, locals, log)
         .ok()
         .ok_or("no memory")?;
     lane.track.count = case.count;

@@ -32,7 +32,8 @@ returns-in-Even c =
     let is : c.even_share-first.result ≡ even_share_of (total_of c.args.from c.args.to) at.lane at.span =
     c.even_share-first.ensures ∙ ap (λ (n : ℕ). even_share_of c.total_of.result n c.span.result) c.lane.ensures ∙ ap (λ (n : ℕ). even_share_of c.total_of.result at.lane n) c.span.ensures.span
     ∙ ap (λ (n : ℕ). even_share_of n at.lane at.span) total in
-    let next_is = to_z-of_z w64 c.number_at.result (search rules) ∙ c.number_at.ensures ∙ ap (λ (z : ℤ). z +ℤ pos c.even_share-first.result.0) from_is in
+    let next_is = to_z-of_z w64 c.number_at.result (search rules) ∙ c.number_at.ensures ∙ ap (λ (z : ℤ). z +ℤ pos (c.even_share-first.result.0 + 0)) from_is
+    ∙ ap (λ (k : ℕ). c.args.from +ℤ pos k) (let e : c.even_share-first.result.0 + 0 ≡ c.even_share-first.result.0 = omega arith in e) in
     let end_is = to_z-of_z w64 c.number_at-in-Even.result (search rules) ∙ c.number_at-in-Even.ensures ∙ ap (λ (z : ℤ). z +ℤ pos (c.even_share-first.result.0 + c.even_share-first.result.1)) from_is in
     λ line s.
     even_is at body c.args.slot c.args.from (total_of c.args.from c.args.to) c.even_share-first.result (to_z w64 (of_z w64 c.number_at.result)) (to_z w64 (of_z w64 c.number_at-in-Even.result)) is next_is end_is s

@@ -14,11 +14,11 @@ use Rattle.serial_team.specs.declared.member.Member.{Member}
 use Rattle.serial_team.specs.declared.member.Stage.{Stage}
 use Rattle.serial_team.specs.declared.member.Stage.TheVariants as stage
 use Rattle.serial_team.specs.declared.stop.Stop.{Stop}
-use Rattle.serial_team.specs.declared.stop.StopWhy.TheVariants as why
+use Rattle.kernel_model.specs.declared.stop.StopWhy.TheVariants as reason
 use Rattle.serial_team.specs.Stopping.{StopsPast, IfStopped, LaneLong, LaneStopped, LongBelow, PhasesLong, PhasesStopped, RegionLong, RegionStopped, StopsBelow, TeamWent}
 use Rattle.serial_team.proofs.Stopped.{TeamFromSo, TeamLongFrom, TeamCame, came_runs, came_stops, long_here, long_in_region, phases_stop_here, phases_stop_more, so_ends, stop_so, told_is_err, stops_in_region, stops_more, stops_past_region, stops_too_many}
 use Rattle.serial_team.specs.Members.{BeginTeam, Pool, whole_log, MemberValue, all_idle, idle_member, later, path_in, pool, seen}
-use Rattle.serial_team.specs.Running.{GoesTo, RanBelow, RanPhase, RanTo}
+use Rattle.serial_team.specs.Running.{GoesTo, RanBelow, DidPhase, RanTo}
 use Rattle.serial_team.proofs.Going.{arrays_at, goes_more, goes_past_region, if_err, if_then, ran_to_barrier, ran_to_end, value_of}
 use Rattle.serial_team.proofs.Phases.{PhaseFrom, phase_ends, phase_more, phases_last, phases_more}
 use Rattle.serial_team.proofs.region.+region.Goals as goal
@@ -168,7 +168,7 @@ run_phase-returns t c =
     record {
       ran = λ layout tells have.
           if_then c.loop-member.first (PhaseFrom layout c.args.at.now c.args.number (all_idle old) (all_idle (drop n old)) (pool c.args.memory.now) (all_idle (take n now)) (pool c.loop-member.memory))
-          (RanPhase layout c.args.at.now c.args.number (all_idle old) (pool c.args.memory.now) (all_idle now) (pool c.loop-member.memory))
+          (DidPhase layout c.args.at.now c.args.number (all_idle old) (pool c.args.memory.now) (all_idle now) (pool c.loop-member.memory))
           (phase_ends layout c.args.at.now c.args.number old (pool c.args.memory.now) now (pool c.loop-member.memory) n (omega (arith, c.loop-member-test.false, inv.long)) inv.long)
           (inv.ran layout tells have);
       stops = λ layout tells have.
@@ -239,16 +239,16 @@ fork-returns-in_err-region-clause-stops t c =
     (long_in_region layout c.args.path.now x team c.args.arrays.now own (let deep = c.requires.deep in let some = c.if-depth-eq0.false in omega arith) now)
     (c.in_err-region.ensures.stops layout tells))
 
-pub fork-returns-then-len-gt-MOST_BELOW-clause-stops : goal.fork-returns-then-len-gt-MOST_BELOW-clause-stops
-fork-returns-then-len-gt-MOST_BELOW-clause-stops t c =
+pub fork-returns-then-len-gt-TASK_LIMIT-clause-stops : goal.fork-returns-then-len-gt-TASK_LIMIT-clause-stops
+fork-returns-then-len-gt-TASK_LIMIT-clause-stops t c =
     let x = seen c.args.memory.now c.args.member.now in
     let team = team_of c.args.team.now in
     let now = pool c.region.new.memory in
     let logs = map whole_log c.region.new.done.items in
     λ layout tells own.
-    subst (λ (q : List Step). StopsBelow layout c.args.path.now team x now (record { path = q; line = team.line; why = why.Tasks })) (sym c.copy.ensures.same)
+    subst (λ (q : List Step). StopsBelow layout c.args.path.now team x now (record { path = q; line = team.line; why = reason.Tasks })) (sym c.copy.ensures.same)
     (stops_too_many layout c.args.path.now x team c.args.arrays.now own (let deep = c.requires.deep in let some = c.if-depth-eq0.false in omega arith) now logs (c.in_ok-region.ensures.ran layout tells)
-    (omega (arith, c.if-len-gt-MOST_BELOW.true, c.len.ensures, length-map c.region.new.done.items whole_log)))
+    (omega (arith, c.if-len-gt-TASK_LIMIT.true, c.len.ensures, length-map c.region.new.done.items whole_log)))
 
 pub go-returns-in_err-stage-clause-stops : goal.go-returns-in_err-stage-clause-stops
 go-returns-in_err-stage-clause-stops t c =

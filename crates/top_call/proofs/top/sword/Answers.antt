@@ -1,18 +1,22 @@
 use Rattle.std.proofs.Common.{refl, ap, inl, inr, subst, List, ℕ}
 use Rattle.sw_base.specs.Environment.{Rose}
-use Rattle.command_answer.specs.Answer.{Answers, Tries, silent}
+use Rattle.sw_base.proofs.Gains.{GainsPrefix-same}
+use Rattle.command_answer.specs.Answer.{Answers, Tries, failed, silent}
 use Rattle.command_answer.proofs.Answering.{Answers-of, Tries-from_prints}
 use Rattle.certify_command.specs.Certify.{CertifyDue}
-use Rattle.folder_commands.specs.Check.{FolderDue, HasReport}
+use Rattle.folder_commands.specs.Check.{AnswersForRun, AnswersRefusal, HasReport, fails}
 use Rattle.folder_commands.specs.Confirm.{HasConfirmation}
 use Rattle.folder_commands.specs.Explain.{HasExplanation}
 use Rattle.run_command.specs.Run.{LeavesPart, RunDue}
 use Rattle.folder_commands.specs.Show.{ShowsRecords}
-use Rattle.top_call.specs.Arguments.{UsageDue, certify, check, confirm, explain, gen, replay, run, show, texts, upgrade}
+use Rattle.top_call.specs.Arguments.{UsageDue, certify, check, confirm, explain, gen, replay, run, show, texts, to_check, to_confirm, to_explain, to_show, upgrade}
+use Rattle.top_call.proofs.FolderRequests.{not_certify, not_gen, not_replay, not_run, not_upgrade, not_usage, one_folder}
 use Rattle.top_call.proofs.ArgumentLists.{same_certify, same_check, same_confirm, same_explain, same_gen, same_replay, same_run, same_show, same_upgrade, usage_once}
 use Rattle.folder_commands.specs.Gen.{GenDue}
 use Rattle.folder_commands.specs.Replay.{ReplayDue}
 use Rattle.folder_commands.specs.Upgrade.{IsUpgraded, UpgradeDue}
+use Rattle.folder_commands.proofs.FolderAnswers.{for_run, refusal}
+use Rattle.folder_commands.proofs.NoRefusals.{no_refused_confirmation, no_refused_explanation, no_refused_listing, no_refused_report}
 use Rattle.folder_commands.proofs.OneExplanation.{one_confirmation, one_explanation}
 use Rattle.folder_commands.proofs.OneReplay.{one_replay}
 use Rattle.folder_commands.proofs.OneSummary.{one_summary}
@@ -36,14 +40,14 @@ check-requires-clause-workers g c = λ _ _.
 pub returns-in-Ok-Some-Check-clause-check : goal.returns-in-Ok-Some-Check-clause-check
 returns-in-Ok-Some-Check-clause-check g c = λ dir workers says content told.
     let said = rw (c.in-Ok-Some-Check.field-0-is, c.in-Ok-Some-Check.field-0-0-is) at c.in-Ok-Some-Check.ensures.said in
-    subst (λ (d : List ℕ). Answers (FolderDue HasReport content.held d) (g.O.Out.written c.args.out.now) (g.O.Out.written c.check.new.out) c.check.result)
-    (same_check _ _ dir _ _ said says) (c.check.ensures.answers content told)
+    subst (λ (d : List ℕ). AnswersForRun HasReport content.held d (g.O.Out.written c.args.out.now) (g.O.Out.written c.check.new.out) c.check.result)
+    (same_check _ _ dir _ _ said says) (for_run HasReport _ _ _ _ _ (c.check.ensures.answers content told))
 
 pub returns-in-Ok-Some-Show-clause-show : goal.returns-in-Ok-Some-Show-clause-show
 returns-in-Ok-Some-Show-clause-show g c = λ dir says content told.
     let said = rw (c.in-Ok-Some-Show.field-0-is, c.in-Ok-Some-Show.field-0-0-is) at c.in-Ok-Some-Show.ensures.said in
-    subst (λ (d : List ℕ). Answers (FolderDue ShowsRecords content.held d) (g.O.Out.written c.args.out.now) (g.O.Out.written c.show.new.out) c.show.result)
-    (same_show _ _ dir said says) (c.show.ensures.answers content told)
+    subst (λ (d : List ℕ). AnswersForRun ShowsRecords content.held d (g.O.Out.written c.args.out.now) (g.O.Out.written c.show.new.out) c.show.result)
+    (same_show _ _ dir said says) (for_run ShowsRecords _ _ _ _ _ (c.show.ensures.answers content told))
 
 pub returns-in-Ok-None-clause-run : goal.returns-in-Ok-None-clause-run
 returns-in-Ok-None-clause-run g c = λ kernel dir size says. let usage = rw c.in-Ok-None.field-0-is at c.in-Ok-None.ensures.usage in absurd (usage (run kernel dir size) says)
@@ -176,13 +180,13 @@ returns-in-Ok-None-clause-confirm g c = λ dir first_row first second_row second
 pub returns-in-Ok-Some-Confirm-clause-confirm : goal.returns-in-Ok-Some-Confirm-clause-confirm
 returns-in-Ok-Some-Confirm-clause-confirm g c = λ dir first_row first second_row second says content told.
     let said = rw (c.in-Ok-Some-Confirm.field-0-is, c.in-Ok-Some-Confirm.field-0-0-is) at c.in-Ok-Some-Confirm.ensures.said in
-    same_confirm (λ (d : List ℕ) (a i b j : ℕ). Answers (FolderDue (HasConfirmation a i b j) content.held d) (g.O.Out.written c.args.out.now) (g.O.Out.written c.confirm_records.new.out) c.confirm_records.result)
+    same_confirm (λ (d : List ℕ) (a i b j : ℕ). AnswersForRun (HasConfirmation a i b j) content.held d (g.O.Out.written c.args.out.now) (g.O.Out.written c.confirm_records.new.out) c.confirm_records.result)
     (texts c.args.arguments.now) _ dir _ _ _ _ first_row first second_row second said says
-    (Answers-of _ (one_confirmation _ _ _ _ content.held _) _ _ _ (c.confirm_records.ensures.answers content told))
+    (for_run _ _ _ _ _ _ (Answers-of _ (one_confirmation _ _ _ _ content.held _) _ _ _ (c.confirm_records.ensures.answers content told)))
 
 pub returns-in-Err-clause-confirm : goal.returns-in-Err-clause-confirm
 returns-in-Err-clause-confirm g c = λ dir first_row first second_row second says content told.
-    Answers-of _ (one_confirmation first_row first second_row second content.held dir) _ _ _ (silent (inr (inr refl)) refl)
+    fails (inr (inr refl)) (λ trace due text good is. GainsPrefix-same _ _ text refl)
 
 pub returns-in-Ok-Some-Confirm-clause-only_reads : goal.returns-in-Ok-Some-Confirm-clause-only_reads
 returns-in-Ok-Some-Confirm-clause-only_reads g c = λ _.
@@ -199,11 +203,11 @@ returns-in-Ok-None-clause-explain g c = λ dir low high says.
 pub returns-in-Ok-Some-Explain-clause-explain : goal.returns-in-Ok-Some-Explain-clause-explain
 returns-in-Ok-Some-Explain-clause-explain g c = λ dir low high says content told.
     let said = rw (c.in-Ok-Some-Explain.field-0-is, c.in-Ok-Some-Explain.field-0-0-is) at c.in-Ok-Some-Explain.ensures.said in
-    same_explain (λ (d : List ℕ) (n m : ℕ). Answers (FolderDue (HasExplanation n m) content.held d) (g.O.Out.written c.args.out.now) (g.O.Out.written c.explain_lines.new.out) c.explain_lines.result)
-    (texts c.args.arguments.now) _ dir _ _ low high said says (Answers-of _ (one_explanation _ _ content.held _) _ _ _ (c.explain_lines.ensures.answers content told))
+    same_explain (λ (d : List ℕ) (n m : ℕ). AnswersForRun (HasExplanation n m) content.held d (g.O.Out.written c.args.out.now) (g.O.Out.written c.explain_lines.new.out) c.explain_lines.result)
+    (texts c.args.arguments.now) _ dir _ _ low high said says (for_run _ _ _ _ _ _ (Answers-of _ (one_explanation _ _ content.held _) _ _ _ (c.explain_lines.ensures.answers content told)))
 
 pub returns-in-Err-clause-explain : goal.returns-in-Err-clause-explain
-returns-in-Err-clause-explain g c = λ dir low high says content told. Answers-of _ (one_explanation low high content.held dir) _ _ _ (silent (inr (inr refl)) refl)
+returns-in-Err-clause-explain g c = λ dir low high says content told. fails (inr (inr refl)) (λ trace due text good is. GainsPrefix-same _ _ text refl)
 
 pub returns-in-Ok-Some-Explain-clause-only_reads : goal.returns-in-Ok-Some-Explain-clause-only_reads
 returns-in-Ok-Some-Explain-clause-only_reads g c = λ _.
@@ -228,4 +232,89 @@ returns-in-Ok-Some-Certify-clause-only_reads g c = λ _.
     record { request = certify _; says = said; reads = tt }
 
 pub returns-in-Ok-Some-Certify-clause-asks_once : goal.returns-in-Ok-Some-Certify-clause-asks_once
-returns-in-Ok-Some-Certify-clause-asks_once g c = inl (ap (λ s. s.roots) c.certify_file.ensures.same)
+returns-in-Ok-Some-Certify-clause-asks_once g c = inl (ap (λ s. s.roots) c.certify_file.ensures.reads.same)
+
+pub returns-in-Err-clause-check : goal.returns-in-Err-clause-check
+returns-in-Err-clause-check g c = λ dir workers says content told. fails (inr (inr refl)) (λ trace due text good is. GainsPrefix-same _ _ text refl)
+
+pub returns-in-Err-clause-show : goal.returns-in-Err-clause-show
+returns-in-Err-clause-show g c = λ dir says content told. fails (inr (inr refl)) (λ trace due text good is. GainsPrefix-same _ _ text refl)
+
+pub returns-in-Ok-None-clause-refusal : goal.returns-in-Ok-None-clause-refusal
+returns-in-Ok-None-clause-refusal g c = λ dir asks. let usage = rw c.in-Ok-None.field-0-is at c.in-Ok-None.ensures.usage in absurd (not_usage _ dir usage asks)
+
+pub returns-in-Err-clause-refusal : goal.returns-in-Err-clause-refusal
+returns-in-Err-clause-refusal g c = λ dir asks content told so. failed (inr (inr refl)) (λ due text is. GainsPrefix-same _ _ text refl)
+
+pub returns-in-Ok-Some-Check-clause-refusal : goal.returns-in-Ok-Some-Check-clause-refusal
+returns-in-Ok-Some-Check-clause-refusal g c = λ dir asks content told.
+    let said = rw (c.in-Ok-Some-Check.field-0-is, c.in-Ok-Some-Check.field-0-0-is) at c.in-Ok-Some-Check.ensures.said in
+    subst (λ (d : List ℕ). AnswersRefusal content.held d (g.O.Out.written c.args.out.now) (g.O.Out.written c.check.new.out) c.check.result)
+    (one_folder _ _ dir (to_check _ said) asks) (refusal _ _ _ _ _ _ no_refused_report (c.check.ensures.answers content told))
+
+pub returns-in-Ok-Some-Show-clause-refusal : goal.returns-in-Ok-Some-Show-clause-refusal
+returns-in-Ok-Some-Show-clause-refusal g c = λ dir asks content told.
+    let said = rw (c.in-Ok-Some-Show.field-0-is, c.in-Ok-Some-Show.field-0-0-is) at c.in-Ok-Some-Show.ensures.said in
+    subst (λ (d : List ℕ). AnswersRefusal content.held d (g.O.Out.written c.args.out.now) (g.O.Out.written c.show.new.out) c.show.result)
+    (one_folder _ _ dir (to_show said) asks) (refusal _ _ _ _ _ _ no_refused_listing (c.show.ensures.answers content told))
+
+pub returns-in-Ok-Some-Explain-clause-refusal : goal.returns-in-Ok-Some-Explain-clause-refusal
+returns-in-Ok-Some-Explain-clause-refusal g c = λ dir asks content told.
+    let said = rw (c.in-Ok-Some-Explain.field-0-is, c.in-Ok-Some-Explain.field-0-0-is) at c.in-Ok-Some-Explain.ensures.said in
+    subst (λ (d : List ℕ). AnswersRefusal content.held d (g.O.Out.written c.args.out.now) (g.O.Out.written c.explain_lines.new.out) c.explain_lines.result)
+    (one_folder _ _ dir (to_explain _ _ said) asks) (refusal _ _ _ _ _ _ (no_refused_explanation _ _) (Answers-of _ (one_explanation _ _ content.held _) _ _ _ (c.explain_lines.ensures.answers content told)))
+
+pub returns-in-Ok-Some-Confirm-clause-refusal : goal.returns-in-Ok-Some-Confirm-clause-refusal
+returns-in-Ok-Some-Confirm-clause-refusal g c = λ dir asks content told.
+    let said = rw (c.in-Ok-Some-Confirm.field-0-is, c.in-Ok-Some-Confirm.field-0-0-is) at c.in-Ok-Some-Confirm.ensures.said in
+    subst (λ (d : List ℕ). AnswersRefusal content.held d (g.O.Out.written c.args.out.now) (g.O.Out.written c.confirm_records.new.out) c.confirm_records.result)
+    (one_folder _ _ dir (to_confirm _ _ _ _ said) asks) (refusal _ _ _ _ _ _ (no_refused_confirmation _ _ _ _) (Answers-of _ (one_confirmation _ _ _ _ content.held _) _ _ _ (c.confirm_records.ensures.answers content told)))
+
+pub returns-in-Ok-Some-Run-clause-refusal : goal.returns-in-Ok-Some-Run-clause-refusal
+returns-in-Ok-Some-Run-clause-refusal g c = λ dir asks.
+    let said = rw (c.in-Ok-Some-Run.field-0-is, c.in-Ok-Some-Run.field-0-0-is) at c.in-Ok-Some-Run.ensures.said in
+    absurd (not_run _ _ _ dir _ said asks)
+
+pub returns-in-Ok-Some-Replay-clause-refusal : goal.returns-in-Ok-Some-Replay-clause-refusal
+returns-in-Ok-Some-Replay-clause-refusal g c = λ dir asks.
+    let said = rw (c.in-Ok-Some-Replay.field-0-is, c.in-Ok-Some-Replay.field-0-0-is) at c.in-Ok-Some-Replay.ensures.said in
+    absurd (not_replay _ _ _ dir said asks)
+
+pub returns-in-Ok-Some-Gen-clause-refusal : goal.returns-in-Ok-Some-Gen-clause-refusal
+returns-in-Ok-Some-Gen-clause-refusal g c = λ dir asks.
+    let said = rw (c.in-Ok-Some-Gen.field-0-is, c.in-Ok-Some-Gen.field-0-0-is) at c.in-Ok-Some-Gen.ensures.said in
+    absurd (not_gen _ _ _ dir said asks)
+
+pub returns-in-Ok-Some-Upgrade-clause-refusal : goal.returns-in-Ok-Some-Upgrade-clause-refusal
+returns-in-Ok-Some-Upgrade-clause-refusal g c = λ dir asks.
+    let said = rw (c.in-Ok-Some-Upgrade.field-0-is, c.in-Ok-Some-Upgrade.field-0-0-is) at c.in-Ok-Some-Upgrade.ensures.said in
+    absurd (not_upgrade _ _ _ dir said asks)
+
+pub returns-in-Ok-Some-Certify-clause-refusal : goal.returns-in-Ok-Some-Certify-clause-refusal
+returns-in-Ok-Some-Certify-clause-refusal g c = λ dir asks.
+    let said = rw (c.in-Ok-Some-Certify.field-0-is, c.in-Ok-Some-Certify.field-0-0-is) at c.in-Ok-Some-Certify.ensures.said in
+    absurd (not_certify _ _ dir said asks)
+
+pub returns-in-Ok-Some-Check-clause-no_read_fault : goal.returns-in-Ok-Some-Check-clause-no_read_fault
+returns-in-Ok-Some-Check-clause-no_read_fault g c = c.check.ensures.reads.no_fault
+
+pub returns-in-Ok-Some-Show-clause-no_read_fault : goal.returns-in-Ok-Some-Show-clause-no_read_fault
+returns-in-Ok-Some-Show-clause-no_read_fault g c = c.show.ensures.reads.no_fault
+
+pub returns-in-Ok-Some-Replay-clause-no_read_fault : goal.returns-in-Ok-Some-Replay-clause-no_read_fault
+returns-in-Ok-Some-Replay-clause-no_read_fault g c = c.replay_file.ensures.reads.no_fault
+
+pub returns-in-Ok-Some-Explain-clause-no_read_fault : goal.returns-in-Ok-Some-Explain-clause-no_read_fault
+returns-in-Ok-Some-Explain-clause-no_read_fault g c = c.explain_lines.ensures.reads.no_fault
+
+pub returns-in-Ok-Some-Confirm-clause-no_read_fault : goal.returns-in-Ok-Some-Confirm-clause-no_read_fault
+returns-in-Ok-Some-Confirm-clause-no_read_fault g c = c.confirm_records.ensures.reads.no_fault
+
+pub returns-in-Ok-Some-Certify-clause-no_read_fault : goal.returns-in-Ok-Some-Certify-clause-no_read_fault
+returns-in-Ok-Some-Certify-clause-no_read_fault g c = c.certify_file.ensures.reads.no_fault
+
+pub returns-in-Ok-Some-Run-clause-no_read_fault : goal.returns-in-Ok-Some-Run-clause-no_read_fault
+returns-in-Ok-Some-Run-clause-no_read_fault g c = c.run_file.ensures.no_read_fault
+
+pub returns-in-Ok-Some-Upgrade-clause-no_read_fault : goal.returns-in-Ok-Some-Upgrade-clause-no_read_fault
+returns-in-Ok-Some-Upgrade-clause-no_read_fault g c = c.upgrade_folder.ensures.no_read_fault

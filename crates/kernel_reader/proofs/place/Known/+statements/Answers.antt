@@ -15,7 +15,7 @@ use Rattle.kernel_text.specs.declared.fault.KernelWhy.TheVariants as why
 use Rattle.kernel_reader.specs.Rules.{fault_if, is_misplaced, declared_faults, assigned_faults, array_faults, tree_faults, critical_faults, in_critical, is_fixed}
 use Rattle.kernel_reader.specs.Resolve.{sites, stmts_sites}
 use Rattle.kernel_reader.specs.Sections.{region_faults, region_section}
-use Rattle.kernel_reader.specs.Folding.{place_of, IsFirstRead, IsLeft}
+use Rattle.kernel_reader.specs.Folding.{names_at, IsFirstRead, IsLeft}
 use Rattle.kernel_reader.specs.declared.fault.ReadKernelFault.{ReadKernelFault}
 use Rattle.kernel_reader.specs.declared.place.State.{State}
 use Rattle.kernel_reader.specs.declared.place.Section.{Section}
@@ -64,20 +64,20 @@ parallel_stmt-returns-clause-reads t c =
     let r = subst (λ (v : ℤ). (region_faults c.args.section c.args.line c.args.number_line v ≡ []) × ((c.in_ok-span.span ≡ count_literal v) × (c.in_ok-span.inner ≡ region_section c.args.section v))) z c.in_ok-span.ensures in
     let light : c.in_ok-block.block.weight ≤ 65536 = omega arith in
     λ rest. rw c.plain.ensures
-    (region-read c.args.self.now.arrays.now c.args.self.now.mutexes.now c.args.state.now c.stmts.new.state c.args.section c.in_ok-span.inner c.args.line c.args.number_line c.args.span c.in_ok-span.span c.args.body.now.opened (stmts_of c.args.body.now.stmts.items) c.args.body.now.closed c.made_parallel.result c.in_ok-block.block rest r.0 (ap (place_of c.args.self.now.arrays.now c.args.self.now.mutexes.now c.args.state.now) r.1.1) r.1.0 c.in_ok-block.ensures.reads light c.in_ok-block.ensures.variables c.made_parallel.ensures)
+    (region-read c.args.self.now.arrays.now c.args.self.now.mutexes.now c.args.state.now c.stmts.new.state c.args.section c.in_ok-span.inner c.args.line c.args.number_line c.args.span c.in_ok-span.span c.args.body.now.opened (stmts_of c.args.body.now.stmts.items) c.args.body.now.closed c.made_parallel.result c.in_ok-block.block rest r.0 (ap (names_at c.args.self.now.arrays.now c.args.self.now.mutexes.now c.args.state.now) r.1.1) r.1.0 c.in_ok-block.ensures.reads light c.in_ok-block.ensures.variables c.made_parallel.ensures)
 
 pub critical_stmt-returns-clause-reads : goal.critical_stmt-returns-clause-reads
 critical_stmt-returns-clause-reads t c =
     let r = c.in_ok-inner.ensures in
     λ rest. rw c.plain.ensures
-    (critical-read c.args.self.now.arrays.now c.args.self.now.mutexes.now c.args.state.now c.stmts.new.state c.args.section c.in_ok-inner.inner c.args.line c.args.body.now.opened (stmts_of c.args.body.now.stmts.items) c.args.body.now.closed c.made_critical-stmt.result c.in_ok-block.block rest r.0 (ap (place_of c.args.self.now.arrays.now c.args.self.now.mutexes.now c.args.state.now) r.1) c.in_ok-block.ensures.reads c.in_ok-block.ensures.variables c.made_critical-stmt.ensures)
+    (critical-read c.args.self.now.arrays.now c.args.self.now.mutexes.now c.args.state.now c.stmts.new.state c.args.section c.in_ok-inner.inner c.args.line c.args.body.now.opened (stmts_of c.args.body.now.stmts.items) c.args.body.now.closed c.made_critical-stmt.result c.in_ok-block.block rest r.0 (ap (names_at c.args.self.now.arrays.now c.args.self.now.mutexes.now c.args.state.now) r.1) c.in_ok-block.ensures.reads c.in_ok-block.ensures.variables c.made_critical-stmt.ensures)
 
 pub critical_of_stmt-returns-clause-reads : goal.critical_of_stmt-returns-clause-reads
 critical_of_stmt-returns-clause-reads t c =
     let m = c.in_ok-mutex.ensures in
     let r = c.in_ok-inner.ensures in
     λ name_line rest. rw c.plain.ensures
-    (critical-of-read c.args.self.now.arrays.now c.args.self.now.mutexes.now c.args.state.now c.stmts.new.state c.args.section c.in_ok-inner.inner c.args.line name_line c.args.name.now c.args.body.now.opened (stmts_of c.args.body.now.stmts.items) c.args.body.now.closed c.made_critical-stmt.result c.in_ok-block.block rest m.0 (ap (critical_faults (place_of c.args.self.now.arrays.now c.args.self.now.mutexes.now c.args.state.now c.args.section) c.args.line) (sym m.1) ∙ r.0) (ap (place_of c.args.self.now.arrays.now c.args.self.now.mutexes.now c.args.state.now) r.1 ∙ ap (in_critical (place_of c.args.self.now.arrays.now c.args.self.now.mutexes.now c.args.state.now c.args.section)) m.1) c.in_ok-block.ensures.reads c.in_ok-block.ensures.variables
+    (critical-of-read c.args.self.now.arrays.now c.args.self.now.mutexes.now c.args.state.now c.stmts.new.state c.args.section c.in_ok-inner.inner c.args.line name_line c.args.name.now c.args.body.now.opened (stmts_of c.args.body.now.stmts.items) c.args.body.now.closed c.made_critical-stmt.result c.in_ok-block.block rest m.0 (ap (critical_faults (names_at c.args.self.now.arrays.now c.args.self.now.mutexes.now c.args.state.now c.args.section) c.args.line) (sym m.1) ∙ r.0) (ap (names_at c.args.self.now.arrays.now c.args.self.now.mutexes.now c.args.state.now) r.1 ∙ ap (in_critical (names_at c.args.self.now.arrays.now c.args.self.now.mutexes.now c.args.state.now c.args.section)) m.1) c.in_ok-block.ensures.reads c.in_ok-block.ensures.variables
     (λ more. c.made_critical-stmt.ensures more ∙ ap (λ (k : ℕ). kernel.Critical k c.args.line c.args.body.now.closed (code_of c.in_ok-block.block.body.stmts.items) more) m.1))
 
 pub stmt-returns-in-If-clause-reads : goal.stmt-returns-in-If-clause-reads
@@ -150,28 +150,28 @@ stmts-returns-clause-reads t c =
 pub loop_stmt-returns-in_err-slot-clause-reads : goal.loop_stmt-returns-in_err-slot-clause-reads
 loop_stmt-returns-in_err-slot-clause-reads t c =
     let p = err_from_is_err_and c.from_residual.result c.from_residual.ensures.1 in
-    λ line rest. rw (p.1, p.2, ← c.copy-name.ensures) (loop-range-first (place_of c.args.self.now.arrays.now c.args.self.now.mutexes.now c.args.state.now c.args.section) line c.args.range.now.name_line c.copy-name.result c.args.range.now.in_line (tree_of c.args.range.now.from) c.args.range.now.dots (tree_of c.args.range.now.to) c.args.body.now.opened (stmts_of c.args.body.now.stmts.items) c.args.body.now.closed rest c.in_err-slot.field-0.0 c.in_err-slot.ensures.settled)
+    λ line rest. rw (p.1, p.2, ← c.copy-name.ensures) (loop-range-first (names_at c.args.self.now.arrays.now c.args.self.now.mutexes.now c.args.state.now c.args.section) line c.args.range.now.name_line c.copy-name.result c.args.range.now.in_line (tree_of c.args.range.now.from) c.args.range.now.dots (tree_of c.args.range.now.to) c.args.body.now.opened (stmts_of c.args.body.now.stmts.items) c.args.body.now.closed rest c.in_err-slot.field-0.0 c.in_err-slot.ensures.settled)
 
 pub loop_stmt-returns-in_err-block-clause-reads : goal.loop_stmt-returns-in_err-block-clause-reads
 loop_stmt-returns-in_err-block-clause-reads t c =
     let inner_is : c.inside_branch-inner.result ≡ record c.args.section { uneven = c.args.section.uneven || not (is_fixed (tree_of c.args.range.now.from) (tree_of c.args.range.now.to)) } = rw (← c.is_fixed.ensures) c.inside_branch-inner.ensures in
     let p = err_from_is_err_and c.from_residual-in_err-block.result c.from_residual-in_err-block.ensures.1 in
-    λ line rest. rw (p.1, p.2, ← c.copy-name.ensures) (loop-body-first (place_of c.args.self.now.arrays.now c.args.self.now.mutexes.now c.range.new.state c.inside_branch-inner.result) (place_of c.args.self.now.arrays.now c.args.self.now.mutexes.now c.args.state.now c.args.section) line c.args.range.now.name_line c.copy-name.result c.args.range.now.in_line (tree_of c.args.range.now.from) c.args.range.now.dots (tree_of c.args.range.now.to) c.args.body.now.opened (stmts_of c.args.body.now.stmts.items) c.args.body.now.closed rest c.in_err-block.field-0.0 (place-loop c.args.self.now.arrays.now c.args.self.now.mutexes.now c.args.state.now c.range.new.state c.args.section c.inside_branch-inner.result c.copy-name.result (not (is_fixed (tree_of c.args.range.now.from) (tree_of c.args.range.now.to))) inner_is c.in_ok-slot.ensures.slot c.in_ok-slot.ensures.variables) c.in_ok-slot.ensures.settled.0 c.in_err-block.ensures.reads)
+    λ line rest. rw (p.1, p.2, ← c.copy-name.ensures) (loop-body-first (names_at c.args.self.now.arrays.now c.args.self.now.mutexes.now c.range.new.state c.inside_branch-inner.result) (names_at c.args.self.now.arrays.now c.args.self.now.mutexes.now c.args.state.now c.args.section) line c.args.range.now.name_line c.copy-name.result c.args.range.now.in_line (tree_of c.args.range.now.from) c.args.range.now.dots (tree_of c.args.range.now.to) c.args.body.now.opened (stmts_of c.args.body.now.stmts.items) c.args.body.now.closed rest c.in_err-block.field-0.0 (place-loop c.args.self.now.arrays.now c.args.self.now.mutexes.now c.args.state.now c.range.new.state c.args.section c.inside_branch-inner.result c.copy-name.result (not (is_fixed (tree_of c.args.range.now.from) (tree_of c.args.range.now.to))) inner_is c.in_ok-slot.ensures.slot c.in_ok-slot.ensures.variables) c.in_ok-slot.ensures.settled.0 c.in_err-block.ensures.reads)
 
 pub for_stmt-returns-in_err-slot-clause-reads : goal.for_stmt-returns-in_err-slot-clause-reads
 for_stmt-returns-in_err-slot-clause-reads t c =
     let p = err_from_is_err_and c.from_residual-in_err-slot.result c.from_residual-in_err-slot.ensures.1 in
-    λ rest. rw (p.1, p.2, ← c.copy-name.ensures) (for-range-first (place_of c.args.self.now.arrays.now c.args.self.now.mutexes.now c.args.state.now c.args.section) c.args.line c.args.range.now.name_line c.copy-name.result c.args.range.now.in_line (tree_of c.args.range.now.from) c.args.range.now.dots (tree_of c.args.range.now.to) (schedule_tree c.args.schedule) c.args.nowait c.args.body.now.opened (stmts_of c.args.body.now.stmts.items) c.args.body.now.closed rest c.in_err-slot.field-0.0 c.in_ok-check_shared.ensures.0 c.in_err-slot.ensures.settled)
+    λ rest. rw (p.1, p.2, ← c.copy-name.ensures) (for-range-first (names_at c.args.self.now.arrays.now c.args.self.now.mutexes.now c.args.state.now c.args.section) c.args.line c.args.range.now.name_line c.copy-name.result c.args.range.now.in_line (tree_of c.args.range.now.from) c.args.range.now.dots (tree_of c.args.range.now.to) (schedule_tree c.args.schedule) c.args.nowait c.args.body.now.opened (stmts_of c.args.body.now.stmts.items) c.args.body.now.closed rest c.in_err-slot.field-0.0 c.in_ok-check_shared.ensures.0 c.in_err-slot.ensures.settled)
 
 pub for_stmt-returns-in_err-schedule-clause-reads : goal.for_stmt-returns-in_err-schedule-clause-reads
 for_stmt-returns-in_err-schedule-clause-reads t c =
     let p = err_from_is_err_and c.from_residual-in_err-schedule.result c.from_residual-in_err-schedule.ensures.1 in
-    λ rest. rw (p.1, p.2, ← c.copy-name.ensures) (for-schedule-first (place_of c.args.self.now.arrays.now c.args.self.now.mutexes.now c.args.state.now c.args.section) c.args.line c.args.range.now.name_line c.copy-name.result c.args.range.now.in_line (tree_of c.args.range.now.from) c.args.range.now.dots (tree_of c.args.range.now.to) (schedule_tree c.args.schedule) c.args.nowait c.args.body.now.opened (stmts_of c.args.body.now.stmts.items) c.args.body.now.closed rest c.in_err-schedule.field-0.0 c.in_ok-check_shared.ensures.0 c.in_ok-slot.ensures.settled.0 c.in_err-schedule.ensures)
+    λ rest. rw (p.1, p.2, ← c.copy-name.ensures) (for-schedule-first (names_at c.args.self.now.arrays.now c.args.self.now.mutexes.now c.args.state.now c.args.section) c.args.line c.args.range.now.name_line c.copy-name.result c.args.range.now.in_line (tree_of c.args.range.now.from) c.args.range.now.dots (tree_of c.args.range.now.to) (schedule_tree c.args.schedule) c.args.nowait c.args.body.now.opened (stmts_of c.args.body.now.stmts.items) c.args.body.now.closed rest c.in_err-schedule.field-0.0 c.in_ok-check_shared.ensures.0 c.in_ok-slot.ensures.settled.0 c.in_err-schedule.ensures)
 
 pub for_stmt-returns-in_err-block-clause-reads : goal.for_stmt-returns-in_err-block-clause-reads
 for_stmt-returns-in_err-block-clause-reads t c =
     let p = err_from_is_err_and c.from_residual-in_err-block.result c.from_residual-in_err-block.ensures.1 in
-    λ rest. rw (p.1, p.2, ← c.copy-name.ensures) (for-body-first (place_of c.args.self.now.arrays.now c.args.self.now.mutexes.now c.range.new.state c.inside_work.result) (place_of c.args.self.now.arrays.now c.args.self.now.mutexes.now c.args.state.now c.args.section) c.args.line c.args.range.now.name_line c.copy-name.result c.args.range.now.in_line (tree_of c.args.range.now.from) c.args.range.now.dots (tree_of c.args.range.now.to) (schedule_tree c.args.schedule) c.args.nowait c.args.body.now.opened (stmts_of c.args.body.now.stmts.items) c.args.body.now.closed rest c.in_err-block.field-0.0 (place-work c.args.self.now.arrays.now c.args.self.now.mutexes.now c.args.state.now c.range.new.state c.args.section c.inside_work.result c.copy-name.result c.inside_work.ensures c.in_ok-slot.ensures.slot c.in_ok-slot.ensures.variables) c.in_ok-check_shared.ensures.0 c.in_ok-slot.ensures.settled.0 c.in_ok-schedule.ensures.0 c.in_err-block.ensures.reads)
+    λ rest. rw (p.1, p.2, ← c.copy-name.ensures) (for-body-first (names_at c.args.self.now.arrays.now c.args.self.now.mutexes.now c.range.new.state c.inside_work.result) (names_at c.args.self.now.arrays.now c.args.self.now.mutexes.now c.args.state.now c.args.section) c.args.line c.args.range.now.name_line c.copy-name.result c.args.range.now.in_line (tree_of c.args.range.now.from) c.args.range.now.dots (tree_of c.args.range.now.to) (schedule_tree c.args.schedule) c.args.nowait c.args.body.now.opened (stmts_of c.args.body.now.stmts.items) c.args.body.now.closed rest c.in_err-block.field-0.0 (place-work c.args.self.now.arrays.now c.args.self.now.mutexes.now c.args.state.now c.range.new.state c.args.section c.inside_work.result c.copy-name.result c.inside_work.ensures c.in_ok-slot.ensures.slot c.in_ok-slot.ensures.variables) c.in_ok-check_shared.ensures.0 c.in_ok-slot.ensures.settled.0 c.in_ok-schedule.ensures.0 c.in_err-block.ensures.reads)
 
 pub stmt-if_stmt-requires : goal.stmt-if_stmt-requires
 stmt-if_stmt-requires t c =
@@ -289,7 +289,7 @@ stmt-returns-in_err-let_stmt-in-Let-clause-reads t c =
     let p = err_from_is_err_and c.from_residual.result c.from_residual.ensures.1 in
     λ rest.
     let at = ap (λ (s : Statement). stmt_before s rest) c.in-Let.is ∙ before_let c.in-Let.line c.in-Let.name_line c.in-Let.name c.in-Let.sign_line c.in-Let.value rest in
-    rw (p.1, p.2, at, ← c.copy.ensures) (part-2 (declared_faults (place_of c.args.self.now.arrays.now c.args.self.now.mutexes.now c.args.state.now c.args.section) c.in-Let.name_line c.copy.result) (tree_faults (place_of c.args.self.now.arrays.now c.args.self.now.mutexes.now c.args.state.now c.args.section).names false (tree_of c.in-Let.value)) _ _ c.in_err-let_stmt-in-Let.ensures.settled)
+    rw (p.1, p.2, at, ← c.copy.ensures) (part-2 (declared_faults (names_at c.args.self.now.arrays.now c.args.self.now.mutexes.now c.args.state.now c.args.section) c.in-Let.name_line c.copy.result) (tree_faults (names_at c.args.self.now.arrays.now c.args.self.now.mutexes.now c.args.state.now c.args.section).names false (tree_of c.in-Let.value)) _ _ c.in_err-let_stmt-in-Let.ensures.settled)
 
 pub stmt-returns-in_ok-let_stmt-in-Let-clause-reads : goal.stmt-returns-in_ok-let_stmt-in-Let-clause-reads
 stmt-returns-in_ok-let_stmt-in-Let-clause-reads t c =
@@ -302,7 +302,7 @@ stmt-returns-in_err-assign_stmt-in-Assign-clause-reads t c =
     let p = err_from_is_err_and c.from_residual-in_err-assign_stmt-in-Assign.result c.from_residual-in_err-assign_stmt-in-Assign.ensures.1 in
     λ rest.
     let at = ap (λ (s : Statement). stmt_before s rest) c.in-Assign.is ∙ before_assign c.in-Assign.line c.in-Assign.name c.in-Assign.sign_line c.in-Assign.value rest in
-    rw (p.1, p.2, at) (part-2 (assigned_faults (place_of c.args.self.now.arrays.now c.args.self.now.mutexes.now c.args.state.now c.args.section) c.in-Assign.line c.in-Assign.name) (tree_faults (place_of c.args.self.now.arrays.now c.args.self.now.mutexes.now c.args.state.now c.args.section).names false (tree_of c.in-Assign.value)) _ _ c.in_err-assign_stmt-in-Assign.ensures.settled)
+    rw (p.1, p.2, at) (part-2 (assigned_faults (names_at c.args.self.now.arrays.now c.args.self.now.mutexes.now c.args.state.now c.args.section) c.in-Assign.line c.in-Assign.name) (tree_faults (names_at c.args.self.now.arrays.now c.args.self.now.mutexes.now c.args.state.now c.args.section).names false (tree_of c.in-Assign.value)) _ _ c.in_err-assign_stmt-in-Assign.ensures.settled)
 
 pub stmt-returns-in_ok-assign_stmt-in-Assign-clause-reads : goal.stmt-returns-in_ok-assign_stmt-in-Assign-clause-reads
 stmt-returns-in_ok-assign_stmt-in-Assign-clause-reads t c =
@@ -315,14 +315,14 @@ stmt-returns-in_err-store_stmt-in-Store-clause-reads t c =
     let p = err_from_is_err_and c.from_residual-in_err-store_stmt-in-Store.result c.from_residual-in_err-store_stmt-in-Store.ensures.1 in
     λ rest.
     let at = ap (λ (s : Statement). stmt_before s rest) c.in-Store.is ∙ before_store c.in-Store.line c.in-Store.name c.in-Store.opened c.in-Store.index c.in-Store.closed c.in-Store.sign_line c.in-Store.value rest in
-    rw (p.1, p.2, at) (part-3 (array_faults (place_of c.args.self.now.arrays.now c.args.self.now.mutexes.now c.args.state.now c.args.section).names false c.in-Store.line c.in-Store.name) (tree_faults (place_of c.args.self.now.arrays.now c.args.self.now.mutexes.now c.args.state.now c.args.section).names false (tree_of c.in-Store.index)) (tree_faults (place_of c.args.self.now.arrays.now c.args.self.now.mutexes.now c.args.state.now c.args.section).names false (tree_of c.in-Store.value)) _ _ c.in_err-store_stmt-in-Store.ensures.settled)
+    rw (p.1, p.2, at) (part-3 (array_faults (names_at c.args.self.now.arrays.now c.args.self.now.mutexes.now c.args.state.now c.args.section).names false c.in-Store.line c.in-Store.name) (tree_faults (names_at c.args.self.now.arrays.now c.args.self.now.mutexes.now c.args.state.now c.args.section).names false (tree_of c.in-Store.index)) (tree_faults (names_at c.args.self.now.arrays.now c.args.self.now.mutexes.now c.args.state.now c.args.section).names false (tree_of c.in-Store.value)) _ _ c.in_err-store_stmt-in-Store.ensures.settled)
 
 pub stmt-returns-in_err-update_stmt-in-Update-clause-reads : goal.stmt-returns-in_err-update_stmt-in-Update-clause-reads
 stmt-returns-in_err-update_stmt-in-Update-clause-reads t c =
     let p = err_from_is_err_and c.from_residual-in_err-update_stmt-in-Update.result c.from_residual-in_err-update_stmt-in-Update.ensures.1 in
     λ rest.
     let at = ap (λ (s : Statement). stmt_before s rest) c.in-Update.is ∙ before_update c.in-Update.line c.in-Update.name_line c.in-Update.name c.in-Update.opened c.in-Update.index c.in-Update.closed c.in-Update.minus c.in-Update.sign_line c.in-Update.value rest in
-    rw (p.1, p.2, at) (part-3 (array_faults (place_of c.args.self.now.arrays.now c.args.self.now.mutexes.now c.args.state.now c.args.section).names false c.in-Update.name_line c.in-Update.name) (tree_faults (place_of c.args.self.now.arrays.now c.args.self.now.mutexes.now c.args.state.now c.args.section).names false (tree_of c.in-Update.index)) (tree_faults (place_of c.args.self.now.arrays.now c.args.self.now.mutexes.now c.args.state.now c.args.section).names false (tree_of c.in-Update.value)) _ _ c.in_err-update_stmt-in-Update.ensures.settled)
+    rw (p.1, p.2, at) (part-3 (array_faults (names_at c.args.self.now.arrays.now c.args.self.now.mutexes.now c.args.state.now c.args.section).names false c.in-Update.name_line c.in-Update.name) (tree_faults (names_at c.args.self.now.arrays.now c.args.self.now.mutexes.now c.args.state.now c.args.section).names false (tree_of c.in-Update.index)) (tree_faults (names_at c.args.self.now.arrays.now c.args.self.now.mutexes.now c.args.state.now c.args.section).names false (tree_of c.in-Update.value)) _ _ c.in_err-update_stmt-in-Update.ensures.settled)
 
 pub stmt-returns-in_ok-store_stmt-in-Store-clause-reads : goal.stmt-returns-in_ok-store_stmt-in-Store-clause-reads
 stmt-returns-in_ok-store_stmt-in-Store-clause-reads t c =
@@ -341,7 +341,7 @@ stmt-returns-in_err-check_shared-in-Barrier-clause-reads t c =
     let p = err_from_is_err_and c.from_residual-in_err-check_shared-in-Barrier.result c.from_residual-in_err-check_shared-in-Barrier.ensures.1 in
     λ rest.
     let at = ap (λ (s : Statement). stmt_before s rest) c.in-Barrier.is ∙ before_barrier c.in-Barrier.line rest in
-    rw (p.1, p.2, at) (part-2 (fault_if (is_misplaced (place_of c.args.self.now.arrays.now c.args.self.now.mutexes.now c.args.state.now c.args.section)) c.in-Barrier.line why.BarrierHere) (fault_if c.args.section.uneven c.in-Barrier.line why.NotUniform) _ _ c.in_err-check_shared-in-Barrier.ensures)
+    rw (p.1, p.2, at) (part-2 (fault_if (is_misplaced (names_at c.args.self.now.arrays.now c.args.self.now.mutexes.now c.args.state.now c.args.section)) c.in-Barrier.line why.BarrierHere) (fault_if c.args.section.uneven c.in-Barrier.line why.NotUniform) _ _ c.in_err-check_shared-in-Barrier.ensures)
 
 pub stmt-returns-in_ok-check_shared-in-Barrier-clause-reads : goal.stmt-returns-in_ok-check_shared-in-Barrier-clause-reads
 stmt-returns-in_ok-check_shared-in-Barrier-clause-reads t c =

@@ -20,9 +20,10 @@ use Rattle.kernel_model.specs.Effect.{Returned}
 use Rattle.shared_words.specs.declared.view.View.{View}
 use Rattle.shared_words.specs.Handles.{HandValue}
 use Rattle.kernel_model.specs.Drawing.{turn_from}
+use Rattle.lane_runner.specs.declared.stop.Halt.TheVariants as halt
 use Rattle.lane_runner.specs.Alone.{IsAlone}
 use Rattle.task_place.specs.declared.locals.Locals.{Locals}
-use Rattle.lane_runner.specs.Going.{Goes, Made, site, halt_for}
+use Rattle.lane_runner.specs.Going.{Goes, Made, site}
 use Rattle.lane_runner.proofs.Running.{made_done, goes_assigned}
 use Rattle.kernel_model.proofs.StmtLists.{split_at, grown}
 use Rattle.lane_runner.proofs.Bodies.{log_still, log_later, test_stops, else_goes, then_goes, from_stops, to_stops, loop_goes, turns_none, turns_next, turns_stop, statements_next, statements_stop}
@@ -103,23 +104,23 @@ pub statement-returns-in_err-chosen-in-If-clause-goes : goal.statement-returns-i
 statement-returns-in_err-chosen-in-If-clause-goes g t c =
     let p = err_from_is_err_and c.from_residual.result c.from_residual.ensures.1 in
     rw (p.1, p.2)
-    (subst (λ (x : Code). Goes c.args.world.now (run (site c.args.world.now) x) c.args.self.now.locals.slots.items c.args.self.now.locals.slots.items c.args.self.now.track c.value.new.track (Err (halt_for c.in_err-chosen-in-If.field-0.0))) (sym (is_if _ _ c.in-If.is))
-    (test_stops c.args.world.now (site c.args.world.now) c.args.self.now.locals.slots.items (term_of c.in-If.test) (code_of c.in-If.yes.stmts.items) (code_of c.in-If.no.stmts.items) c.args.self.now.track c.value.new.track (halt_for c.in_err-chosen-in-If.field-0.0) c.in_err-chosen-in-If.ensures.goes))
+    (subst (λ (x : Code). Goes c.args.world.now (run (site c.args.world.now) x) c.args.self.now.locals.slots.items c.args.self.now.locals.slots.items c.args.self.now.track c.value.new.track (Err (halt.Own c.in_err-chosen-in-If.field-0.0))) (sym (is_if _ _ c.in-If.is))
+    (test_stops c.args.world.now (site c.args.world.now) c.args.self.now.locals.slots.items (term_of c.in-If.test) (code_of c.in-If.yes.stmts.items) (code_of c.in-If.no.stmts.items) c.args.self.now.track c.value.new.track (halt.Own c.in_err-chosen-in-If.field-0.0) c.in_err-chosen-in-If.ensures.goes))
 
 pub statement-returns-in_err-first-in-Loop-clause-goes : goal.statement-returns-in_err-first-in-Loop-clause-goes
 statement-returns-in_err-first-in-Loop-clause-goes g t c =
     let p = err_from_is_err_and c.from_residual-in_err-first-in-Loop.result c.from_residual-in_err-first-in-Loop.ensures.1 in
     rw (p.1, p.2)
-    (subst (λ (x : Code). Goes c.args.world.now (run (site c.args.world.now) x) c.args.self.now.locals.slots.items c.args.self.now.locals.slots.items c.args.self.now.track c.value-in-Loop.new.track (Err (halt_for c.in_err-first-in-Loop.field-0.0))) (sym (is_loop _ c.in-Loop.is))
-    (from_stops c.args.world.now (site c.args.world.now) c.args.self.now.locals.slots.items c.in-Loop.slot (term_of c.in-Loop.from) (term_of c.in-Loop.to) (code_of c.in-Loop.body.stmts.items) c.args.self.now.track c.value-in-Loop.new.track (halt_for c.in_err-first-in-Loop.field-0.0) c.in_err-first-in-Loop.ensures.goes))
+    (subst (λ (x : Code). Goes c.args.world.now (run (site c.args.world.now) x) c.args.self.now.locals.slots.items c.args.self.now.locals.slots.items c.args.self.now.track c.value-in-Loop.new.track (Err (halt.Own c.in_err-first-in-Loop.field-0.0))) (sym (is_loop _ c.in-Loop.is))
+    (from_stops c.args.world.now (site c.args.world.now) c.args.self.now.locals.slots.items c.in-Loop.slot (term_of c.in-Loop.from) (term_of c.in-Loop.to) (code_of c.in-Loop.body.stmts.items) c.args.self.now.track c.value-in-Loop.new.track (halt.Own c.in_err-first-in-Loop.field-0.0) c.in_err-first-in-Loop.ensures.goes))
 
 pub statement-returns-in_err-last-in-Loop-clause-goes : goal.statement-returns-in_err-last-in-Loop-clause-goes
 statement-returns-in_err-last-in-Loop-clause-goes g t c =
     let p = err_from_is_err_and c.from_residual-in_err-last-in-Loop.result c.from_residual-in_err-last-in-Loop.ensures.1 in
     rw (p.1, p.2)
-    (subst (λ (x : Code). Goes c.args.world.now (run (site c.args.world.now) x) c.args.self.now.locals.slots.items c.args.self.now.locals.slots.items c.args.self.now.track c.value-in-Loop-2.new.track (Err (halt_for c.in_err-last-in-Loop.field-0.0))) (sym (is_loop _ c.in-Loop.is))
+    (subst (λ (x : Code). Goes c.args.world.now (run (site c.args.world.now) x) c.args.self.now.locals.slots.items c.args.self.now.locals.slots.items c.args.self.now.track c.value-in-Loop-2.new.track (Err (halt.Own c.in_err-last-in-Loop.field-0.0))) (sym (is_loop _ c.in-Loop.is))
     (to_stops c.args.world.now (site c.args.world.now) c.args.self.now.locals.slots.items c.in-Loop.slot (term_of c.in-Loop.from) (term_of c.in-Loop.to) (code_of c.in-Loop.body.stmts.items) c.in_ok-first-in-Loop.first c.args.self.now.track c.value-in-Loop.new.track c.value-in-Loop-2.new.track c.in_ok-first-in-Loop.ensures.goes
-    (halt_for c.in_err-last-in-Loop.field-0.0) c.in_err-last-in-Loop.ensures.goes))
+    (halt.Own c.in_err-last-in-Loop.field-0.0) c.in_err-last-in-Loop.ensures.goes))
 
 pub statement-returns-in-Set-clause-goes : goal.statement-returns-in-Set-clause-goes
 statement-returns-in-Set-clause-goes g t c =
@@ -143,7 +144,7 @@ statement-returns-in_ok-last-in-Loop-clause-goes g t c =
     (loop_goes c.args.world.now (site c.args.world.now) c.args.self.now.locals.slots.items c.in-Loop.slot (term_of c.in-Loop.from) (term_of c.in-Loop.to) (code_of c.in-Loop.body.stmts.items) c.in_ok-first-in-Loop.first c.args.self.now.track c.value-in-Loop.new.track c.repeat.new.self.track c.in_ok-first-in-Loop.ensures.goes
     c.value-in-Loop-2.new.track c.in_ok-last-in-Loop.last c.repeat.new.self.locals.slots.items c.repeat.result c.in_ok-last-in-Loop.ensures.goes
     (subst (λ (n : ℕ). Goes c.args.world.now (turns n 0 (turn_from (site c.args.world.now) (code_of c.in-Loop.body.stmts.items) c.in-Loop.slot c.in_ok-first-in-Loop.first)) c.args.self.now.locals.slots.items c.repeat.new.self.locals.slots.items c.value-in-Loop-2.new.track c.repeat.new.self.track c.repeat.result)
-    (c.total_of-total.ensures ∙ ap (λ (z : ℤ). total_of z (to_z w64 (of_z w64 c.in_ok-last-in-Loop.last))) first_is ∙ ap (λ (z : ℤ). total_of c.in_ok-first-in-Loop.first z) last_is)
+    (c.total_of-total.ensures.count ∙ ap (λ (z : ℤ). total_of z (to_z w64 (of_z w64 c.in_ok-last-in-Loop.last))) first_is ∙ ap (λ (z : ℤ). total_of c.in_ok-first-in-Loop.first z) last_is)
     (subst (λ (z : ℤ). Goes c.args.world.now (turns c.total_of-total.result 0 (turn_from (site c.args.world.now) (code_of c.in-Loop.body.stmts.items) c.in-Loop.slot z)) c.args.self.now.locals.slots.items c.repeat.new.self.locals.slots.items c.value-in-Loop-2.new.track c.repeat.new.self.track c.repeat.result) first_is
     c.repeat.ensures.goes)))
 

@@ -5,7 +5,8 @@ use Rattle.kernel_syntax.specs.Program.{term_of}
 use Rattle.kernel_model.specs.Changing.{amount, kind_of}
 use Rattle.kernel_model.specs.Trace.{changed}
 use Rattle.kernel_model.specs.Value.{element_at}
-use Rattle.lane_runner.specs.Going.{Goes, site, halt_for}
+use Rattle.lane_runner.specs.declared.stop.Halt.TheVariants as halt
+use Rattle.lane_runner.specs.Going.{Goes, site}
 use Rattle.lane_runner.proofs.Running.{index_stops, value_stops, change_goes}
 use Rattle.lane_runner.proofs.Values.{can_follow}
 use Rattle.lane_runner.proofs.frame.Frame.change.Goals as goal
@@ -14,13 +15,13 @@ pub returns-in_err-at-clause-goes : goal.returns-in_err-at-clause-goes
 returns-in_err-at-clause-goes g c =
     let p = err_from_is_err_and c.from_residual.result c.from_residual.ensures.1 in
     rw (p.1, p.2)
-    (index_stops c.args.world.now c.args.change (site c.args.world.now) c.args.self.now.locals.slots.items c.args.array (term_of c.args.index.now) (term_of c.args.expr.now) c.args.line c.args.place c.args.self.now.track c.value.new.track (halt_for c.in_err-at.field-0.0) c.in_err-at.ensures.goes)
+    (index_stops c.args.world.now c.args.change (site c.args.world.now) c.args.self.now.locals.slots.items c.args.array (term_of c.args.index.now) (term_of c.args.expr.now) c.args.line c.args.place c.args.self.now.track c.value.new.track (halt.Own c.in_err-at.field-0.0) c.in_err-at.ensures.goes)
 
 pub returns-in_err-number-clause-goes : goal.returns-in_err-number-clause-goes
 returns-in_err-number-clause-goes g c =
     let p = err_from_is_err_and c.from_residual-in_err-number.result c.from_residual-in_err-number.ensures.1 in
     rw (p.1, p.2)
-    (value_stops c.args.world.now c.args.change (site c.args.world.now) c.args.self.now.locals.slots.items c.args.array (term_of c.args.index.now) (term_of c.args.expr.now) c.args.line c.args.place c.in_ok-at.at c.args.self.now.track c.value.new.track c.value-2.new.track c.in_ok-at.ensures.goes (halt_for c.in_err-number.field-0.0) c.in_err-number.ensures.goes)
+    (value_stops c.args.world.now c.args.change (site c.args.world.now) c.args.self.now.locals.slots.items c.args.array (term_of c.args.index.now) (term_of c.args.expr.now) c.args.line c.args.place c.in_ok-at.at c.args.self.now.track c.value.new.track c.value-2.new.track c.in_ok-at.ensures.goes (halt.Own c.in_err-number.field-0.0) c.in_err-number.ensures.goes)
 
 pub returns-clause-goes : goal.returns-clause-goes
 returns-clause-goes g c =

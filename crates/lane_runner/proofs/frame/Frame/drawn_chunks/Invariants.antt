@@ -1,7 +1,8 @@
 use Rattle.std.proofs.Common.{◌≡◌, ◌-◌}
+use Rattle.log_format.specs.Limit.{record_limit}
 use Rattle.kernel_syntax.specs.Program.{code_of}
 use Rattle.kernel_model.specs.Iterations.{chunk_count, chunk_iterations}
-use Rattle.kernel_model.specs.Trace.{each, log_limit}
+use Rattle.kernel_model.specs.Trace.{each}
 use Rattle.kernel_model.specs.Drawing.{turn_from, draw_all}
 use Rattle.lane_runner.specs.Going.{CanGo, IsSameLog, site}
 use Rattle.lane_runner.proofs.Draining.{GoesOnIn}
@@ -17,4 +18,4 @@ invariant-draws g l = record {
 }
 
 abbrev pub decreases-draws : goal.decreases-draws
-decreases-draws g l = log_limit - l.self.track.buffer.count
+decreases-draws g l = record_limit - l.self.track.buffer.count

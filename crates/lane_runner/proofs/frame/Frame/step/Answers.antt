@@ -1,6 +1,7 @@
 use Rattle.std.proofs.Common.{refl, ap, sym, ◌∙◌, subst, ◌-◌, List, [], ◌∷◌, ℤ, Ok, w64, FitsSigned, rules}
 use Rattle.std.specs.Prelude.{slice_set}
 use Rattle.std.proofs.lemmas.Int.{to_z-of_z}
+use Rattle.log_format.specs.Limit.{record_limit}
 use Rattle.kernel_syntax.specs.Program.{stmt_code}
 use Rattle.kernel_syntax.specs.Tree.{Done}
 use Rattle.kernel_model.specs.declared.phase.Item.{Item}
@@ -9,7 +10,7 @@ use Rattle.kernel_model.specs.Effect.{Returned}
 use Rattle.kernel_model.specs.Parts.{run_part, bar_count}
 use Rattle.kernel_model.specs.Phases.{part_of, without_barrier}
 use Rattle.kernel_model.specs.State.{Gives, assign}
-use Rattle.kernel_model.specs.Trace.{log_limit, run}
+use Rattle.kernel_model.specs.Trace.{run}
 use Rattle.kernel_model.proofs.Effects.{makes-stays}
 use Rattle.lane_runner.specs.Going.{GoesPast, MadePast, site}
 use Rattle.lane_runner.proofs.Following.{goes_same}
@@ -34,7 +35,7 @@ returns-in-Set-clause-goes g c =
     (subst (λ (i : Item). MadePast (bar_count (part_of i ∷ [])) w (run_part (site w) (part_of i)) slots after track track (Returned tt)) (sym c.in-Set.is)
     (goes_same w (λ s. Gives tt (assign c.in-Set.slot c.in-Set.value s)) (run_part (site w) (part_of (phase_item.Set c.in-Set.slot c.in-Set.value))) slots after track track (λ s. refl) (Ok tt)
     (goes_assigned w (λ s. Gives tt s) c.in-Set.slot c.in-Set.value slots after track track (Ok tt)
-    (made_still w (λ s. Gives tt s) after track (Returned tt) c.requires.can (makes-stays (λ s. Gives tt s) after (log_limit - track.buffer.count) (Returned tt) (λ s same full. refl))))))
+    (made_still w (λ s. Gives tt s) after track (Returned tt) c.requires.can (makes-stays (λ s. Gives tt s) after (record_limit - track.buffer.count) (Returned tt) (λ s same full. refl))))))
 
 pub returns-in-Run-clause-goes : goal.returns-in-Run-clause-goes
 returns-in-Run-clause-goes g c =

@@ -1,19 +1,21 @@
 use Rattle.std.proofs.Common.{◌≡◌, refl, ap, sym, ◌∙◌, subst, ℕ, ◌+◌, ◌<◌, ◌≤◌, min, true, [], ◌∷◌, ◌++◌, rules, arith}
 use Rattle.std.proofs.lemmas.Result.{err_from_is_err_and}
+use Rattle.log_format.specs.Limit.{record_limit}
 use Rattle.log_format.specs.declared.record.Record.{Record}
 use Rattle.log_format.specs.declared.record.Kind.TheVariants as kind
 use Rattle.kernel_model.specs.State.{event}
-use Rattle.kernel_model.specs.Trace.{draw, log_limit}
+use Rattle.kernel_model.specs.Trace.{draw}
 use Rattle.kernel_model.specs.Effect.{Returned}
 use Rattle.kernel_model.proofs.Effects.{makes-draw_full}
 use Rattle.event_buffer.specs.Buffered.{Buffered}
 use Rattle.event_buffer.specs.Logged.{HoldsRecords}
 use Rattle.shared_words.specs.Draws.{drew}
+use Rattle.lane_runner.specs.declared.stop.Halt.TheVariants as halt
 use Rattle.lane_runner.specs.Drawing.{Tally}
-use Rattle.lane_runner.specs.Going.{Progress, HasRoomFor, Made, halt_for}
+use Rattle.lane_runner.specs.Going.{Progress, HasRoomFor, Made}
 use Rattle.lane_runner.proofs.Stepping.{goes_unready}
 use Rattle.lane_runner.proofs.Drawn.{draw_grows, draw_made, same_hand}
-use Rattle.lane_runner.specs.Handed.{entries_of, place_of}
+use Rattle.lane_runner.specs.Handed.{entries_of, log_place}
 use Rattle.lane_runner.proofs.track.Track.draw.Goals as goal
 
 pub returns-in_err-ready-clause-goes : goal.returns-in_err-ready-clause-goes
@@ -21,7 +23,7 @@ returns-in_err-ready-clause-goes g c =
     let p = err_from_is_err_and c.from_residual.result c.from_residual.ensures.1 in
     λ slots. rw (p.1, p.2)
     (goes_unready c.args.world.now (draw c.args.line c.args.chunks) slots c.args.line (draw_grows c.args.line c.args.chunks)
-    (makes-draw_full c.args.line c.args.chunks slots) c.args.self.now c.ready.new.self (halt_for c.in_err-ready.field-0.0) c.requires.can c.in_err-ready.ensures.room)
+    (makes-draw_full c.args.line c.args.chunks slots) c.args.self.now c.ready.new.self (halt.Own c.in_err-ready.field-0.0) c.requires.can c.in_err-ready.ensures.room)
 
 pub loop_after-self-inside-requires : goal.loop_after-self-inside-requires
 loop_after-self-inside-requires g c =
@@ -48,7 +50,7 @@ returns-clause-goes g c =
       records = λ header records holds. subst (λ (r : Record). HoldsRecords header c.put.new.self (records ++ r ∷ [])) (c.event-event.ensures ∙ ap (λ (k : ℕ). event kind.Chunk c.args.line k c.args.chunks) least) (c.put.ensures.records header records holds);
       count = ap (λ (b : Buffered). b.count) c.put.ensures.put;
       path = ap (λ (b : Buffered). b.path) c.put.ensures.put;
-      place = ap place_of c.put.ensures.put;
+      place = ap log_place c.put.ensures.put;
     }) slots)
 
 pub returns-clause-open : goal.returns-clause-open
@@ -64,7 +66,7 @@ returns-clause-closed g c =
 pub returns-clause-below : goal.returns-clause-below
 returns-clause-below g c =
     let room = subst (λ (p : Progress). HasRoomFor c.args.self.now p) (sym c.self.view_is) c.in_ok-ready.ensures.room in
-    subst (λ (n : ℕ). n < log_limit) room.waits.count room.may_put.below
+    subst (λ (n : ℕ). n < record_limit) room.waits.count room.may_put.below
 
 pub returns-clause-count : goal.returns-clause-count
 returns-clause-count g c =

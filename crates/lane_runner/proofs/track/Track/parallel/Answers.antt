@@ -1,6 +1,7 @@
 use Rattle.std.proofs.Common.{Ok, Err, ◌≡◌, refl, ap, sym, ◌∙◌, subst, ℕ, ◌+◌, ◌<◌, ◌≤◌, List, [], length, ℤ, rules}
 use Rattle.std.proofs.lemmas.List.{length-map}
 use Rattle.std.proofs.lemmas.Result.{err_from_is_err_and}
+use Rattle.log_format.specs.Limit.{task_limit}
 use Rattle.sw_base.specs.declared.environment.Log.{Ghosts}
 use Rattle.sw_base.specs.declared.closed_log.ClosedLog.{ClosedLog}
 use Rattle.sw_base.specs.declared.path.Step.{Step}
@@ -18,17 +19,17 @@ use Rattle.shared_words.specs.Handles.{HandValue}
 use Rattle.lane_runner.specs.Children.{AreNewLogs}
 use Rattle.lane_runner.specs.Drawing.{Tally}
 use Rattle.lane_runner.specs.Forking.{Answer, RanRegion, IsReady}
-use Rattle.lane_runner.specs.Going.{Progress, Takes, Began, Made, AtRegion, AtTasks, site}
+use Rattle.lane_runner.specs.Going.{Progress, PutsRecord, Began, Made, AtRegion, AtTasks, site}
 use Rattle.lane_runner.specs.declared.stop.Stop.{Stop}
 use Rattle.lane_runner.specs.World.{WorldValue}
 use Rattle.lane_runner.specs.Going.{CanGo}
 use Rattle.lane_runner.proofs.Stepping.{goes_unready}
 use Rattle.lane_runner.proofs.Regions.{region_made, region_began, region_crowded}
-use Rattle.lane_runner.specs.Handed.{entry_of, entries_of, task_limit}
+use Rattle.lane_runner.specs.Handed.{entry_of, entries_of}
 use Rattle.lane_runner.proofs.track.Track.parallel.Goals as goal
 
 -- the hand after the record of the fork
-ready_after : (w : WorldValue) (team : TeamTree) (old a : Progress) → CanGo w old → old.hand.view.held ≡ [] → Takes (event kind.Region team.line 0 team.span) old.hand.view old a → IsReady a.hand w.words
+ready_after : (w : WorldValue) (team : TeamTree) (old a : Progress) → CanGo w old → old.hand.view.held ≡ [] → PutsRecord (event kind.Region team.line 0 team.span) old.hand.view old a → IsReady a.hand w.words
 ready_after w team old a can free taken = record {
   free = record {
     belongs = record { here = ap (λ (h : HandValue View). h.table) taken.hand ∙ can.belongs.here; there = ap (λ (h : HandValue View). h.there) taken.hand };
@@ -39,7 +40,7 @@ ready_after w team old a can free taken = record {
 
 -- what the region did, by the number that the task had before its record, and how the lane goes on
 module _ {T : Type 0} {seen : Ghosts T} (w : WorldValue) (team : TeamTree) (some : 1 ≤ team.line) (slots : List ℤ) {old mid : Progress} (can : CanGo w old) (free : old.hand.view.held ≡ [])
-    (taken : Takes (event kind.Region team.line 0 team.span) old.hand.view old mid) {logs : List T} (fresh : AreNewLogs seen old.buffer old.tally.forked team.span logs) (after : HandValue View) (done : List (ClosedLog T)) (r : Answer)
+    (taken : PutsRecord (event kind.Region team.line 0 team.span) old.hand.view old mid) {logs : List T} (fresh : AreNewLogs seen old.buffer old.tally.forked team.span logs) (after : HandValue View) (done : List (ClosedLog T)) (r : Answer)
     (ran : IsReady mid.hand w.words → AreNewLogs seen old.buffer mid.tally.forked team.span logs → RanRegion w team slots old.buffer mid.tally.forked mid.hand after mid.done (entries_of seen done) r) where
   abbrev new : Progress
   new = record { hand = after; buffer = mid.buffer; tally = record mid.tally { forked = mid.tally.forked + 1 }; done = entries_of seen done }
@@ -66,7 +67,7 @@ pub region-requires : goal.region-requires
 region-requires g c =
     let team : TeamTree = team_of c.args.team.now in
     let mid : Progress = record { hand = c.self.inside.hand; buffer = c.self.inside.buffer; tally = record { draws = c.self.inside.draws; next_loop = c.self.inside.next_loop; forked = c.self.inside.forked }; done = entries_of g.L.Log c.self.inside.done.items } in
-    let taken = subst (λ (p : Progress). Takes (event kind.Region team.line 0 team.span) c.args.self.now.hand.view c.args.self.now p) (sym c.self.view_is) c.in_ok-logs.ensures.takes in
+    let taken = subst (λ (p : Progress). PutsRecord (event kind.Region team.line 0 team.span) c.args.self.now.hand.view c.args.self.now p) (sym c.self.view_is) c.in_ok-logs.ensures.takes in
     let ready = ready_after c.args.world.now team c.args.self.now mid c.requires.can c.requires.free taken in
     let new = c.in_ok-logs.ensures.logs in
     search (rules, ready, new, c.requires.runs.accepted)
@@ -83,18 +84,18 @@ returns-in_err-logs-clause-goes g c =
 
 pub returns-in-Err-clause-goes : goal.returns-in-Err-clause-goes
 returns-in-Err-clause-goes g c =
-    let taken = subst (λ (p : Progress). Takes (event kind.Region c.args.team.now.line 0 c.args.team.now.span) c.args.self.now.hand.view c.args.self.now p) (sym c.self.view_is) c.in_ok-logs.ensures.takes in
+    let taken = subst (λ (p : Progress). PutsRecord (event kind.Region c.args.team.now.line 0 c.args.team.now.span) c.args.self.now.hand.view c.args.self.now p) (sym c.self.view_is) c.in_ok-logs.ensures.takes in
     began c.args.world.now (team_of c.args.team.now) c.requires.line c.args.locals.now.slots.items c.requires.can c.requires.free taken c.in_ok-logs.ensures.logs c.region.new.arg2 c.region.new.arg7.items c.region.result
     (λ ready logs. c.requires.runs.ran _ _ _ c.self.inside.forked _ _ _ _ _ refl ready logs c.region.ensures) c.in-Err.path c.in-Err.stop c.in-Err.is
 
 pub returns-then-len-gt-TASK_LIMIT-clause-goes : goal.returns-then-len-gt-TASK_LIMIT-clause-goes
 returns-then-len-gt-TASK_LIMIT-clause-goes g c =
-    let taken = subst (λ (p : Progress). Takes (event kind.Region c.args.team.now.line 0 c.args.team.now.span) c.args.self.now.hand.view c.args.self.now p) (sym c.self.view_is) c.in_ok-logs.ensures.takes in
+    let taken = subst (λ (p : Progress). PutsRecord (event kind.Region c.args.team.now.line 0 c.args.team.now.span) c.args.self.now.hand.view c.args.self.now p) (sym c.self.view_is) c.in_ok-logs.ensures.takes in
     crowded c.args.world.now (team_of c.args.team.now) c.requires.line c.args.locals.now.slots.items c.requires.can c.requires.free taken c.in_ok-logs.ensures.logs c.region.new.arg2 c.region.new.arg7.items c.region.result
     (λ ready logs. c.requires.runs.ran _ _ _ c.self.inside.forked _ _ _ _ _ refl ready logs c.region.ensures) _ c.in_default.is (search rules)
 
 pub returns-clause-goes : goal.returns-clause-goes
 returns-clause-goes g c =
-    let taken = subst (λ (p : Progress). Takes (event kind.Region c.args.team.now.line 0 c.args.team.now.span) c.args.self.now.hand.view c.args.self.now p) (sym c.self.view_is) c.in_ok-logs.ensures.takes in
+    let taken = subst (λ (p : Progress). PutsRecord (event kind.Region c.args.team.now.line 0 c.args.team.now.span) c.args.self.now.hand.view c.args.self.now p) (sym c.self.view_is) c.in_ok-logs.ensures.takes in
     made c.args.world.now (team_of c.args.team.now) c.requires.line c.args.locals.now.slots.items c.requires.can c.requires.free taken c.in_ok-logs.ensures.logs c.region.new.arg2 c.region.new.arg7.items c.region.result
     (λ ready logs. c.requires.runs.ran _ _ _ c.self.inside.forked _ _ _ _ _ refl ready logs c.region.ensures) _ c.in_default.is (search rules)

@@ -1,6 +1,6 @@
 use Rattle.std.proofs.Common.{◌≡◌, ◌≤◌, refl, ap, sym, ◌∙◌, subst, ℕ, Some, Err}
+use Rattle.log_format.specs.Limit.{record_limit}
 use Rattle.sw_base.specs.declared.trouble.Trouble.{Trouble}
-use Rattle.kernel_model.specs.Trace.{log_limit}
 use Rattle.event_buffer.specs.Buffered.{Buffered, MayPut}
 use Rattle.event_buffer.specs.declared.fault.BufferFault.{BufferFault}
 use Rattle.event_buffer.specs.declared.fault.BufferFault.TheVariants as fault
@@ -11,7 +11,7 @@ use Rattle.lane_runner.proofs.Stepping.{not_refused}
 use Rattle.lane_runner.specs.Handed.{entries_of}
 use Rattle.lane_runner.proofs.track.Track.ready.Goals as goal
 
-no_room : (line : ℕ) (old new : Progress) (f : BufferFault) → (f ≡ fault.LogFull → (log_limit ≤ old.buffer.count) × (new ≡ old)) → Waits old new
+no_room : (line : ℕ) (old new : Progress) (f : BufferFault) → (f ≡ fault.LogFull → (record_limit ≤ old.buffer.count) × (new ≡ old)) → Waits old new
     → ((trouble : Trouble) → f ≡ fault.Trouble trouble → new.buffer.refused ≡ Some trouble) → MakesRoom line old new (lane_answer (Err (stop_for f line)))
 no_room line old new fault.LogFull full waits refused = let same = full refl in (refl, same.0, same.1)
 no_room line old new (fault.Trouble trouble) full waits refused = (waits, record { refused = λ other. refused trouble refl })

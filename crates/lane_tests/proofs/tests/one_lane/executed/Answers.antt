@@ -17,17 +17,17 @@ use Rattle.shared_words.specs.Handles.{HandValue, WordsValue, ChunksValue}
 use Rattle.task_place.specs.declared.locals.Locals.{Locals}
 use Rattle.lane_runner.specs.declared.stop.Stop.TheVariants as stop
 use Rattle.lane_runner.specs.Forking.{Answer, RanRegion}
-use Rattle.lane_runner.specs.Handed.{Entry, entries_of}
+use Rattle.lane_runner.specs.Handed.{HandedEntry, entries_of}
 use Rattle.lane_runner.specs.Stopping.{IsInRegion}
 use Rattle.kernel_syntax.specs.declared.syntax.Array.{Array}
-use Rattle.lane_runner.specs.Teams.{EachTeam, MayFork}
+use Rattle.lane_runner.specs.Teams.{EachTeam, MayForkTeam}
 use Rattle.lane_runner.specs.World.{WorldValue, IsWorld}
 use Rattle.log_format.specs.Fitting.{IsWidth}
 use Rattle.lane_runner.proofs.NoRegion.{no_memory_for}
 use Rattle.lane_runner.proofs.OwnWords.{bounded_world}
 use Rattle.lane_tests.proofs.tests.one_lane.executed.Goals as goal
 
-ran_none : (w : WorldValue) (team : TeamTree) (slots : List ℤ) (task : Buffered) (path : List Step) (number : ℕ) (hand after : HandValue View) (before later : List Entry) (r : Answer) → hand.there ≡ true → after ≡ hand → later ≡ before
+ran_none : (w : WorldValue) (team : TeamTree) (slots : List ℤ) (task : Buffered) (path : List Step) (number : ℕ) (hand after : HandValue View) (before later : List HandedEntry) (r : Answer) → hand.there ≡ true → after ≡ hand → later ≡ before
     → r ≡ Err (path, stop.Trouble trouble.Memory) → IsInRegion task.path number team.span path → RanRegion w team slots task number hand after before later r
 ran_none w team slots task path number hand after before later r there same kept is inside =
     subst (λ (x : Answer). RanRegion w team slots task number hand after before later x) (sym is)
@@ -40,7 +40,7 @@ module _ {T : Type 0} (w : WorldValue) (accepts : MutBor (HandValue View) → Bo
     (accepted : (hand : MutBor (HandValue View)) (locals : Bor Locals) (number : ℕ) (logs : Vec T) (given : Bor Team) (done : MutBor (Vec (ClosedLog T))) → accepts hand locals number logs given done)
     (told : (hand after : MutBor (HandValue View)) (locals : Bor Locals) (number : ℕ) (logs : Vec T) (given : Bor Team) (done now_done : MutBor (Vec (ClosedLog T))) (r : Answer) → gives hand locals number logs given done r after now_done
     → (after.now ≡ hand.now) × (now_done.now ≡ done.now) × (r ≡ Err (record { region = number; lane = 0; span = given.now.span } ∷ [], stop.Trouble trouble.Memory))) where
-  may_fork : (team : TeamTree) → MayFork w accepts gives seen task team
+  may_fork : (team : TeamTree) → MayForkTeam w accepts gives seen task team
   may_fork team = record {
     path = subst (λ (p : List Step). length p < 4) (sym root) (omega arith);
     runs = record {
@@ -56,7 +56,7 @@ module _ {T : Type 0} (w : WorldValue) (accepts : MutBor (HandValue View) → Bo
     };
   }
 
-  any_team : (code : Code) → EachTeam (MayFork w accepts gives seen task) code
+  any_team : (code : Code) → EachTeam (MayForkTeam w accepts gives seen task) code
   any_team Done = tt
   any_team (Set slot value rest) = any_team rest
   any_team (Store array index value line site rest) = any_team rest

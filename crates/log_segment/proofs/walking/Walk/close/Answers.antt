@@ -13,6 +13,6 @@ returns-clause-added c = λ summary is. record {
   first = refl;
   last_is = refl;
   label = c.copy-2.ensures.same;
-  pairs = λ key address. subst (λ (s : Summary). HasPair c.finish.result.items key address ↔ IsSummed s key address)
-      (same_Some c.in-Some.summary summary (sym c.in-Some.is ∙ (c.take.ensures.value ∙ is))) (c.finish.ensures.pairs key address);
+  pairs = λ key address. subst (λ (s : Summary). HasPair c.take_runs-runs.result.items key address ↔ IsSummed s key address)
+      (same_Some c.in-Some.summary summary (sym c.in-Some.is ∙ (c.take.ensures.value ∙ is))) (c.take_runs-runs.ensures.pairs key address);
 }

@@ -1,4 +1,4 @@
-use Rattle.std.proofs.Common.{true, false, ◌≡◌, ◌∙◌, ◌-◌, List, length, refl, ap, subst, arith}
+use Rattle.std.proofs.Common.{◌≡◌, ◌∙◌, ◌-◌, List, length, ap, subst, arith}
 use Rattle.race_model.specs.Segment.{Segment as Interval}
 use Rattle.log_segment.specs.declared.walking.Walk.{Walk}
 use Rattle.log_segment.specs.Walking.{AddsSegments}

@@ -1,6 +1,0 @@
-use Rattle.std.proofs.Common.{rules}
-use Rattle.stride_summary.proofs.Joined.{adds_within}
-use Rattle.stride_summary.proofs.singles.Singles.push_into.Goals as goal
-
-pub returns : goal.returns
-returns c = adds_within c.args.self.list.items c.settle.new.self.list.items c.args.runs.now.items c.push_joined.new.runs.items c.settle.ensures.same (search rules)
