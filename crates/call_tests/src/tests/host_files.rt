@@ -373,14 +373,8 @@ fn an_opened_file_is_read_to_its_end(rt: HostRuntime) -> Result<(), Fail> {
     assert!(rt; rest_of(&rt, alloc, &mut file).as_slice() == b"eleven byte".as_slice());
     folder.close_file(file);
     assert!(rt; matches!(folder.open_file(alloc, &none), Ok(None)) && folder.faults() == (0, 0));
-    // A folder can be opened, and not be read. The fault counts once the file was given back.
-    let mut file = folder
-        .open_file(alloc, &dir)
-        .expect(&rt, "a folder")
-        .ok_or("a folder")?;
-    assert!(rt; file.read(alloc, &mut [0; 3]) == Err(Trouble::Failed));
-    assert!(rt; folder.faults() == (0, 0));
-    folder.close_file(file);
+    // A folder is no file that can be read, and opening it is a fault.
+    assert!(rt; matches!(folder.open_file(alloc, &dir), Err(Trouble::Failed)));
     assert!(rt; folder.faults() == (1, 0));
     fs::remove_dir_all(&rt, &dir).expect(&rt, "no folder");
     Ok(())
