@@ -83,9 +83,9 @@ def table(all_bodies):
     rows = [
         "# Wrong bodies that no contract refuses",
         "",
-        "Each means something else than the function should, or costs more, and meets its contract all the same. The diff of each stands beside this page, in the folder of its",
-        "crate, with those that a contract refuses. `bench/bodies.py --write` makes this table from them; `bench/bugs.py` gives them to the prover, and `bench/bug_tests.py` to",
-        "the tests that they name.",
+        "Each means something else than the function should, or costs more, and meets its contract all the same. The diff of each stands beside this page, in",
+        "the folder of its crate, with those that a contract refuses; `git apply` takes it. `bench/bodies.py --write` makes this table from them;",
+        "`bench/bugs.py` gives them to the prover, and `bench/bug_tests.py` to the tests that they name.",
     ]
     for crate in sorted({body.crate for body in all_bodies}):
         through = [body for body in all_bodies if body.crate == crate and not body.refused]
