@@ -1,9 +1,9 @@
 #!/usr/bin/env python3
-"""Runs each kernel of examples/ from its file, and compares what `run`, `live`, `check`, `replay` and `certify` print with the tables of examples/README.md.
+"""Runs each kernel of examples/ from its file, and compares what `run`, `live`, `check`, `replay` and `certify` print with the table of examples/README.md.
 
 usage: examples.py SWORD [--runs N]
 
-Each kernel is run N times (3) by `run` and by `live`. A kernel that stands in no table, and a row without a kernel, is a fault, too.
+Each kernel is run N times (3) by `run` and by `live`. A kernel without a row, and a row without a kernel, is a fault, too.
 """
 import argparse
 import collections
@@ -15,10 +15,9 @@ import sys
 import tempfile
 
 EXAMPLES = os.path.join(os.path.dirname(os.path.dirname(os.path.abspath(__file__))), "examples")
-RACING = "uncertain: races"
 
 # What is due of a kernel: lines that `run` prints, each with its alternatives (none: the sums may differ); its pairs (none: it writes no index); the last
-# line of `certify`, which for a kernel that is certain is the first.
+# line of `certify`, or for a kernel that is certain the first.
 Due = collections.namedtuple("Due", "sums pairs verdict")
 
 
@@ -31,22 +30,14 @@ def alternatives(cell):
     return [quoted(part) for part in cell.split(",")]
 
 
-def tables():
+def table():
     """What is due of each kernel, by its name."""
     due = {}
     with open(os.path.join(EXAMPLES, "README.md"), encoding="utf-8") as file:
         rows = [[cell.strip() for cell in line.strip().strip("|").split("|")] for line in file if line.startswith("| `")]
-    for row in rows:
-        if len(row) == 6:
-            racing, pairs, twin, sums, verdict, _ = row
-            name = quoted(racing)[0]
-            drawn = name == "gather_race"
-            due[name] = Due(None, quoted(pairs), quoted(verdict)[0] if drawn else RACING)
-            due[quoted(twin)[0]] = Due(alternatives(sums), [], quoted(verdict)[0])
-        else:
-            kernel, sums, pairs, verdict, _ = row
-            stops = "no index" in pairs
-            due[quoted(kernel)[0]] = Due(alternatives(sums), None if stops else quoted(pairs), quoted(verdict)[0])
+    for kernel, sums, pairs, verdict, _, _ in rows:
+        told = None if sums == "may differ" else alternatives(sums)
+        due[quoted(kernel)[0]] = Due(told, None if pairs == "no index" else quoted(pairs), quoted(verdict)[0])
     return due
 
 
@@ -88,7 +79,7 @@ def main():
     reader.add_argument("sword")
     reader.add_argument("--runs", type=int, default=3)
     given = reader.parse_args()
-    due, wrong = tables(), 0
+    due, wrong = table(), 0
     there = {os.path.basename(path)[: -len(".kernel")] for path in glob.glob(os.path.join(EXAMPLES, "*.kernel"))}
     for name in sorted(there ^ set(due)):
         print(f"{name}: {'no row' if name in there else 'no kernel'}")

@@ -1,8 +1,9 @@
 #!/usr/bin/env python3
 """Tests docs/FROM-OPENMP.md. Each kernel on that page is run and checked, and must print the sums and races that stand below it. Each piece of C
 is compiled with clang 14 and run, and the arrays that it shares with the kernels of its row must have the same sums; without clang 14 that is
-left out, and said. Each difference must be that of the two examples that it names, and each pair of examples/README.md must have one: the first is
-run and must race as it says there, and its twin must have no race and the sums that it says. Each row of the tables must lead to a heading.
+left out, and said. Each difference must be that of the two examples that it names, and each kernel of examples/README.md must have one to each of its
+twins: the first is run and must race as it says there, and its twin must have no race and the sums that it says. Each row of the tables must lead to a
+heading.
 
 usage: openmp.py SWORD
 """
@@ -106,12 +107,13 @@ def faults(sword, page, place):
             due = difference(one, other)
             yield f"{one} to {other}", None if lines == due else "\n".join(["the difference is", *due])
     with open(os.path.join(EXAMPLES, "README.md"), encoding="utf-8") as text:
-        pairs = re.findall(r"^\| `(\w+)` \| `(race [\d ]+)` \| `(\w+)` \| (.*?) \|", text.read(), re.M)
-    for one, races, other, told in pairs:
+        rows = {row[0].strip("`"): row for row in ([cell.strip() for cell in line.strip().strip("|").split("|")] for line in text if line.startswith("| `"))}
+    for one, other in ((one, other) for one, row in rows.items() for other in re.findall(r"`(\w+)`", row[4])):
         yield f"{one} to {other}", None if (one, other) in mended else "no difference leads there"
+        races = rows[one][2].strip("`")
         _, found = judged(sword, os.path.join(EXAMPLES, one + ".kernel"), place)
         yield one, None if found == [races, "races 1"] else f"{races} is due, and `check` prints {found}"
-        due = re.findall(r"`(sum \w+ -?\d+)`", told)
+        due = re.findall(r"`(sum \w+ -?\d+)`", rows[other][1])
         found = judged(sword, os.path.join(EXAMPLES, other + ".kernel"), place)
         yield other, None if found == (due, ["races 0"]) else f"{due} and no race are due, and it prints {found}"
     anchors = {heading.lower().replace(" ", "-") for heading in re.findall(r"^## (.*)$", page, re.M)}
