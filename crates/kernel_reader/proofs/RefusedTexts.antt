@@ -14,8 +14,9 @@ use Rattle.kernel_text.specs.declared.token.Lexeme.{Lexeme}
 use Rattle.kernel_text.specs.declared.token.Lexeme.TheVariants.{Reserved, Number}
 use Rattle.kernel_text.specs.declared.token.Token.{Token}
 use Rattle.kernel_text.specs.Tokens.{lexeme_at, tokens_from, tokens_of}
-use Rattle.kernel_text.specs.Grammar.{Tree, NumberAt, NameAt, TidAt, SpanAt, Element, Group, Minus, Binary, named, number, reserved, mark, sign_of, tree_tokens, Stmts, NoMore, Let, Assign, Store, Update, If, IfElse, Loop, Parallel, For, Barrier, Critical, CriticalOf, stmts_tokens, Declaration, ArrayOf, MutexOf, declarations_tokens, KernelTree, kernel_tokens, IsKernel, IsShallow}
-use Rattle.kernel_text.specs.Faults.{tree_levels, stmts_levels, flat, block_levels, kernel_levels, BeginsShallow}
+use Rattle.kernel_text.specs.Grammar.{Tree, NumberAt, NameAt, TidAt, SpanAt, Element, Group, Minus, Binary, named, number, reserved, mark, sign_of, tree_tokens, Stmts, NoMore, Let, Assign, Store, Update, If, IfElse, Loop, Parallel, For, Barrier, Critical, CriticalOf, stmts_tokens, Declaration, ArrayOf, MutexOf, declarations_tokens, KernelTree, kernel_tokens, IsKernel}
+use Rattle.kernel_text.specs.Faults.{tree_levels, stmts_levels, flat, block_levels, kernel_levels, BeginsShallow, IsShallow}
+use Rattle.kernel_text.proofs.Levels.{shallow_is_low}
 use Rattle.kernel_reader.specs.KernelOf.{IsRefused, AtTokens, AtSyntax, AtDepth, AtEnd}
 use Rattle.kernel_reader.proofs.Texts.{ascii_tokens, ascii_fault, lines}
 
@@ -222,7 +223,7 @@ brackets_refused = AtDepth (open_tokens 33) (mark 2 sign.OpenParen) (ascii_token
 
 -- of two whole kernels that differ in one pair of brackets, one is too deep
 pub brackets_shallow : IsShallow (assigned 32) × (IsShallow (assigned 33) → ⊥)
-brackets_shallow = ((omega arith, tt), λ s. absurd (omega (arith, s.0)))
+brackets_shallow = ((shallow_is_low (assigned 32)).0 (omega arith, tt), λ s. let low = (shallow_is_low (assigned 33)).1 s in absurd (omega (arith, low.0)))
 
 -- ---- for the depth of blocks
 

@@ -15,6 +15,7 @@ use Rattle.kernel_text.specs.declared.fault.KernelWhy.TheVariants as why
 use Rattle.kernel_text.specs.Tokens.{lexeme_at, tokens_from, tokens_of}
 use Rattle.kernel_text.specs.Grammar.{Tree, NumberAt, NameAt, TidAt, Element, Binary, Dynamic, DynamicBy, Stmts, NoMore, Let, Store, Update, If, Loop, Parallel, For, Barrier, CriticalOf, Declaration, ArrayOf, MutexOf, KernelTree}
 use Rattle.kernel_text.specs.Faults.{kernel_levels}
+use Rattle.kernel_text.proofs.Levels.{shallow_is_low}
 use Rattle.kernel_reader.specs.KernelOf.{IsKernelOf, IsRefused, AtRule}
 
 -- each byte is below 128
@@ -89,7 +90,7 @@ branch_kernel = record {
   };
   tokens = ascii_tokens branch_text _ refl refl refl;
   derives = search rules;
-  shallow = search rules;
+  shallow = (shallow_is_low _).0 (search rules);
   lawful = refl;
   resolved = refl;
 }
@@ -135,7 +136,7 @@ locked_kernel = record {
   };
   tokens = ascii_tokens locked_text _ refl refl refl;
   derives = search rules;
-  shallow = search rules;
+  shallow = (shallow_is_low _).0 (search rules);
   lawful = refl;
   resolved = refl;
 }
@@ -185,7 +186,7 @@ drawn_kernel = record {
   };
   tokens = ascii_tokens drawn_text _ refl refl refl;
   derives = search rules;
-  shallow = search rules;
+  shallow = (shallow_is_low _).0 (search rules);
   lawful = refl;
   resolved = refl;
 }
@@ -222,7 +223,7 @@ updated_kernel = record {
   };
   tokens = ascii_tokens updated_text _ refl refl refl;
   derives = search rules;
-  shallow = search rules;
+  shallow = (shallow_is_low _).0 (search rules);
   lawful = refl;
   resolved = refl;
 }
