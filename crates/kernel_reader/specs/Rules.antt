@@ -151,11 +151,9 @@ abbrev pub chunk_faults : ℕ → ℤ → List Refusal
 chunk_faults line chunk = fault_if (not (is_between 1 1048576 chunk)) line why.Count
 
 abbrev pub schedule_faults : ScheduleTree → List Refusal
-schedule_faults Unsaid = []
-schedule_faults (Static line) = []
 schedule_faults (StaticBy line number_line chunk) = chunk_faults number_line chunk
-schedule_faults (Dynamic line) = []
 schedule_faults (DynamicBy line number_line chunk) = chunk_faults number_line chunk
+schedule_faults _ = []
 
 -- the sections around a critical section have smaller mutexes, and they are fewer than eight
 abbrev pub critical_faults : Place → ℕ → ℕ → List Refusal
