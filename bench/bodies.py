@@ -1,7 +1,7 @@
 #!/usr/bin/env python3
 """Reads and keeps the wrong bodies of bugs/.
 
-usage: bodies.py            how many there are, and those whose text no longer stands in its file: these have to be written anew
+usage: bodies.py            how many there are; those whose text no longer stands in its file, which have to be written anew; and those whose test isn't there
        bodies.py --write    the same, and makes the line numbers of the others and the table of bugs/README.md anew
 
 bugs/CRATE/NAME.diff has one wrong body as a unified diff, which `git apply` takes at the top of the repository. Above it stand lines of the form `Word: text`:
@@ -57,6 +57,18 @@ def text_of(body):
         return file.read()
 
 
+def has_its_test(body):
+    """Whether the test that the body names, if any, is one of its crate."""
+    if not body.test:
+        return True
+    crate, name = body.test.split("::")
+    for path in glob.glob(os.path.join(TOP, "crates", crate, "src", "**", "*.rt"), recursive=True):
+        with open(path, encoding="utf-8") as file:
+            if re.search(rf"#\[test\]\s+fn {name}\(", file.read()):
+                return True
+    return False
+
+
 def write(body):
     """Writes a body over the file as it is now; whether its text stands there once."""
     text = text_of(body)
@@ -83,9 +95,9 @@ def table(all_bodies):
     rows = [
         "# Wrong bodies that no contract refuses",
         "",
-        "Each means something else than the function should, or costs more, and meets its contract all the same. The diff of each stands beside this page, in the folder of its",
-        "crate, with those that a contract refuses. `bench/bodies.py --write` makes this table from them; `bench/bugs.py` gives them to the prover, and `bench/bug_tests.py` to",
-        "the tests that they name.",
+        "Each means something else than the function should, or costs more, and meets its contract all the same. The diff of each stands beside this page, in",
+        "the folder of its crate, with those that a contract refuses; `git apply` takes it. `bench/bodies.py --write` makes this table from them;",
+        "`bench/bugs.py` gives them to the prover, and `bench/bug_tests.py` to the tests that they name.",
     ]
     for crate in sorted({body.crate for body in all_bodies}):
         through = [body for body in all_bodies if body.crate == crate and not body.refused]
@@ -103,10 +115,13 @@ def main():
             write(body)
         with open(TABLE, "w", encoding="utf-8") as file:
             file.write(table(found))
+    lost = [body for body in found if not has_its_test(body)]
     for body in stale:
         print(f"{body.crate} {body.name}: its text doesn't stand once in {body.file}")
-    print(f"{len(found)} bodies, {sum(body.refused for body in found)} that a contract refuses; {len(stale)} to be written anew")
-    return stale != []
+    for body in lost:
+        print(f"{body.crate} {body.name}: there is no test {body.test}")
+    print(f"{len(found)} bodies, {sum(body.refused for body in found)} that a contract refuses; {len(stale)} to be written anew, {len(lost)} without their test")
+    return stale != [] or lost != []
 
 
 if __name__ == "__main__":
