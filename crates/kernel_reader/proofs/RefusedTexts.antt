@@ -4,8 +4,6 @@ use Rattle.std.specs.Prelude.{pos, codes, nat_le, ℤ, map, All}
 use Rattle.std.specs.List.{list_all}
 use Rattle.std.specs.Str.{is_utf8, chars}
 use Rattle.std.specs.Str.Lossy.{utf8_valid_len}
-use Rattle.std.proofs.lemmas.Bool.Decides.{nat_tests}
-use Rattle.std.proofs.lemmas.List.Elements.{All-nil, All-cons}
 use lib.Utf8.{encode}
 use Rattle.kernel_text.specs.declared.fault.KernelWhy.TheVariants as why
 use Rattle.kernel_text.specs.declared.token.Word.TheVariants as word
@@ -18,7 +16,7 @@ use Rattle.kernel_text.specs.Grammar.{Tree, NumberAt, NameAt, TidAt, SpanAt, Ele
 use Rattle.kernel_text.specs.Faults.{tree_levels, stmts_levels, flat, block_levels, kernel_levels, BeginsShallow, IsShallow}
 use Rattle.kernel_text.proofs.Levels.{shallow_is_low}
 use Rattle.kernel_reader.specs.KernelOf.{IsRefused, AtTokens, AtSyntax, AtDepth, AtEnd}
-use Rattle.kernel_reader.proofs.Texts.{ascii_tokens, ascii_fault, lines}
+use Rattle.kernel_reader.proofs.Texts.{ascii_tokens, ascii_fault, lines, low}
 
 -- ---- for a token
 
@@ -33,11 +31,6 @@ unfolding tokens_of is_utf8 chars encode utf8_valid_len
 not_utf8_refused = AtTokens refl
 
 -- ---- by the grammar
-
--- levels that are written out
-low : (ns : List ℕ) → list_all (λ n. nat_le n 32) ns ≡ true → All (λ n. n ≤ 32) ns
-low [] all = All-nil (λ n. n ≤ 32)
-low (n ∷ ns) all = All-cons (λ n. n ≤ 32) n ns (grind (arith, nat_tests)) (low ns (grind (arith, nat_tests)))
 
 -- the first tokens of a kernel that is written out
 begins : (ts : List Token) (k : KernelTree) (rest : List Token) → IsKernel k → kernel_tokens k ≡ ts ++ rest → list_all (λ n. nat_le n 32) (take (length ts) (kernel_levels k)) ≡ true → BeginsShallow ts
