@@ -9,7 +9,7 @@ use Rattle.kernel_reader.specs.KernelOf.{IsKernelOf, IsRefused}
 use Rattle.kernel_reader.specs.declared.fault.ReadKernelFault.TheVariants as read
 use Rattle.kernel_file.specs.Holding.{HoldsFault, HoldsKernel}
 use Rattle.kernel_file.specs.Refusing.{refused_text}
-use Rattle.kernel_laws.proofs.OneAnswer.{one-kernel, one-refusal}
+use Rattle.kernel_laws.proofs.OneAnswer.{kernel-or-refusal, one-kernel, one-refusal}
 
 module _ (files : Files) (kernel : List ℕ) where
   -- the file has one text
@@ -29,7 +29,7 @@ module _ (files : Files) (kernel : List ℕ) where
       ap (λ (r : Refusal). refused_text r.line r.why) same
 
   pub refused_or_kernel : (line : ℕ) (why : KernelWhy) (program : Program) → HoldsFault files kernel (read.Refused line why) → HoldsKernel files kernel program → ⊥
-  refused_or_kernel line why program a b = a.none program (subst (λ (text : List ℕ). IsKernelOf text program) (text_once a.text b.text a.held b.held) b.kernel)
+  refused_or_kernel line why program a b = kernel-or-refusal a.text program (refusal line why) (subst (λ (text : List ℕ). IsKernelOf text program) (text_once a.text b.text a.held b.held) b.kernel) a.fault_is
 
   pub kernel_once : (program other : Program) → HoldsKernel files kernel program → HoldsKernel files kernel other → other ≡ program
   kernel_once program other a b = one-kernel a.text other program (subst (λ (text : List ℕ). IsKernelOf text other) (text_once a.text b.text a.held b.held) b.kernel) a.kernel

@@ -5,7 +5,7 @@ use Rattle.sw_base.specs.Environment.{Files}
 use Rattle.kernel_syntax.specs.Program.{Program}
 use Rattle.kernel_reader.specs.declared.fault.ReadKernelFault.{ReadKernelFault}
 use Rattle.kernel_reader.specs.declared.fault.ReadKernelFault.TheVariants as read
-use Rattle.kernel_reader.specs.KernelOf.{IsKernelOf, IsFaultOf, HasNoKernel}
+use Rattle.kernel_reader.specs.KernelOf.{IsKernelOf, IsFaultOf}
 use Rattle.kernel_file.specs.declared.reading.KernelRefusal.{KernelRefusal}
 use Rattle.kernel_file.specs.declared.reading.KernelRefusal.TheVariants.{NoKernel, Refused, Trouble}
 
@@ -25,7 +25,6 @@ pub record HoldsFault (files : Files) (name : List ℕ) (fault : ReadKernelFault
   pub text : List ℕ
   pub held : files name ≡ Some text
   pub fault_is : IsFaultOf text fault
-  pub none : HasNoKernel text fault
 
 -- what a text that is no kernel is answered with
 abbrev pub refusal_of_text : ReadKernelFault → KernelRefusal

@@ -4,7 +4,8 @@ use Rattle.std.specs.Prelude.{Ok}
 use Rattle.kernel_syntax.specs.declared.syntax.Array.{Array}
 use Rattle.kernel_syntax.proofs.Laying.{length-laid, elements-laid}
 use Rattle.kernel_text.specs.Tokens.{tokens_of}
-use Rattle.kernel_text.specs.Grammar.{KernelTree, kernel_tokens, IsKernel, IsShallow}
+use Rattle.kernel_text.specs.Grammar.{KernelTree, kernel_tokens, IsKernel}
+use Rattle.kernel_text.specs.Faults.{IsShallow}
 use Rattle.kernel_reader.specs.Scope.{Place, slots}
 use Rattle.kernel_reader.specs.Rules.{arrays_of, mutex_names, at_main, declarations_faults, stmts_faults, kernel_faults}
 use Rattle.kernel_reader.specs.Resolve.{code, program}

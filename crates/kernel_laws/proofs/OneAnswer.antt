@@ -5,9 +5,8 @@ use Rattle.kernel_syntax.specs.Program.{Program}
 use Rattle.kernel_text.specs.declared.token.Token.{Token}
 use Rattle.kernel_text.specs.declared.fault.KernelWhy.TheVariants as why
 use Rattle.kernel_text.specs.Tokens.{Refusal, tokens_of, line_at}
-use Rattle.kernel_text.specs.Grammar.{KernelTree, kernel_tokens, IsKernel, IsShallow}
-use Rattle.kernel_text.specs.Faults.{kernel_levels, BeginsShallow, IsSyntaxFault, IsTooDeep, EndsEarly}
-use Rattle.kernel_text.proofs.Levels.{shallow_is_low}
+use Rattle.kernel_text.specs.Grammar.{KernelTree, kernel_tokens, IsKernel}
+use Rattle.kernel_text.specs.Faults.{kernel_levels, BeginsShallow, IsSyntaxFault, IsTooDeep, EndsEarly, IsShallow}
 use Rattle.kernel_reader.specs.Rules.{kernel_faults}
 use Rattle.kernel_reader.specs.Resolve.{program}
 use Rattle.kernel_reader.specs.KernelOf.{IsKernelOf, IsRefused, AtTokens, AtSyntax, AtDepth, AtEnd, AtRule}
@@ -18,7 +17,7 @@ use Rattle.kernel_laws.proofs.Trees.{one-tree}
 -- a kernel begins with its tokens
 whole-begins : (ts : List Token) (k : KernelTree) → kernel_tokens k ≡ ts → IsKernel k → IsShallow k → BeginsShallow ts
 whole-begins ts k e d s =
-    (k, [], d, e ∙ sym (append-nil ts), All-from_recursion (λ n. n ≤ 32) _ (take-low (length ts) (kernel_levels k) (recursion_from_All (λ n. n ≤ 32) _ ((shallow_is_low k).0 s))))
+    (k, [], d, e ∙ sym (append-nil ts), All-from_recursion (λ n. n ≤ 32) _ (take-low (length ts) (kernel_levels k) (recursion_from_All (λ n. n ≤ 32) _ s)))
 
 abbrev syntax_at : Token → Refusal
 syntax_at t = record { line = t.line; why = why.Syntax }

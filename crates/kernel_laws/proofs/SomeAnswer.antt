@@ -5,8 +5,8 @@ use Rattle.kernel_text.specs.declared.token.Token.{Token}
 use Rattle.kernel_text.specs.declared.judging.Judgement.{Judgement}
 use Rattle.kernel_text.specs.declared.judging.Judgement.TheVariants as verdict
 use Rattle.kernel_text.specs.Tokens.{Refusal, tokens_of}
-use Rattle.kernel_text.specs.Grammar.{KernelTree, kernel_tokens, IsKernel, IsShallow}
-use Rattle.kernel_text.specs.Faults.{IsVerdict}
+use Rattle.kernel_text.specs.Grammar.{KernelTree, kernel_tokens, IsKernel}
+use Rattle.kernel_text.specs.Faults.{IsVerdict, IsShallow}
 use Rattle.kernel_reader.specs.Rules.{kernel_faults}
 use Rattle.kernel_reader.specs.Resolve.{program}
 use Rattle.kernel_reader.specs.KernelOf.{IsKernelOf, IsRefused, AtTokens, AtRule}

@@ -6,7 +6,9 @@ use Rattle.kernel_text.specs.declared.token.Sign.{Sign}
 use Rattle.kernel_text.specs.declared.token.Sign.TheVariants as sign
 use Rattle.kernel_text.specs.declared.token.Lexeme.TheVariants.{Named, Number, Mark}
 use Rattle.kernel_text.specs.declared.token.Token.{Token}
-use Rattle.kernel_text.specs.Grammar.{Tree, tree_tokens, Derives, expr, IsFlat, mark, reserved, block, ScheduleTree, Unsaid, Static, StaticBy, Dynamic, DynamicBy, schedule_tokens, nowait_tokens, update_sign, Stmts, NoMore, Let, Assign, Store, Update, If, IfElse, Loop, Parallel, For, Barrier, Critical, CriticalOf, stmts_tokens, StmtsDerive, AreShallow, Declaration, ArrayOf, MutexOf, declarations_tokens, KernelTree, kernel_tokens, IsKernel, IsShallow}
+use Rattle.kernel_text.specs.Grammar.{Tree, tree_tokens, Derives, expr, IsFlat, mark, reserved, block, ScheduleTree, Unsaid, Static, StaticBy, Dynamic, DynamicBy, schedule_tokens, nowait_tokens, update_sign, Stmts, NoMore, Let, Assign, Store, Update, If, IfElse, Loop, Parallel, For, Barrier, Critical, CriticalOf, stmts_tokens, StmtsDerive, AreShallow, Declaration, ArrayOf, MutexOf, declarations_tokens, KernelTree, kernel_tokens, IsKernel}
+use Rattle.kernel_text.specs.Faults.{IsShallow}
+use Rattle.kernel_text.proofs.Levels.{shallow_is_low}
 use Rattle.kernel_parser.specs.declared.lookahead.Lead.TheVariants as lead
 use Rattle.kernel_parser.specs.Parsing.{IsExpression, inside}
 use Rattle.kernel_parser.proofs.Signs.{heads-is, begins-with, stops-at}
@@ -374,5 +376,5 @@ pub one-tree : (k l : KernelTree) → kernel_tokens k ≡ kernel_tokens l → Is
 one-tree k l e d g s h =
     let a = one-declared k.declarations l.declarations k.line l.line _ _ e in
     let b = heads-is _ _ _ _ a.2 in
-    let r = only k.body l.body 31 31 k.closed l.closed [] [] b.2 d g s h in
+    let r = only k.body l.body 31 31 k.closed l.closed [] [] b.2 d g ((shallow_is_low k).1 s) ((shallow_is_low l).1 h) in
     trees-same k.declarations l.declarations k.line l.line k.opened l.opened k.body l.body k.closed l.closed a.0 a.1 b.0 r.0 r.1

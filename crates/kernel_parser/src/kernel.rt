@@ -5,7 +5,8 @@ ghost use Rattle.kernel_text.specs.declared.token.Lexeme.TheVariants.{Reserved};
 ghost use Rattle.kernel_text.specs.declared.token.Token.{Token as AToken};
 ghost use Rattle.kernel_text.specs.declared.token.Word.TheVariants as word;
 ghost use Rattle.kernel_text.specs.Grammar as grammar;
-ghost use Rattle.kernel_text.specs.Grammar.{named, number, reserved, declaration_tokens, declarations_tokens, kernel_tokens, IsKernel, IsShallow};
+ghost use Rattle.kernel_text.specs.Grammar.{named, number, reserved, declaration_tokens, declarations_tokens, kernel_tokens, IsKernel};
+ghost use Rattle.kernel_text.specs.Faults.{IsShallow};
 ghost use Rattle.kernel_parser.specs.Trees.{declaration_of, kernel_of};
 ghost use Rattle.kernel_parser.specs.Parsing.{ReadsTo, IsDeclared};
 

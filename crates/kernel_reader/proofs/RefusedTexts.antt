@@ -4,8 +4,6 @@ use Rattle.std.specs.Prelude.{pos, codes, nat_le, ℤ, map, All}
 use Rattle.std.specs.List.{list_all}
 use Rattle.std.specs.Str.{is_utf8, chars}
 use Rattle.std.specs.Str.Lossy.{utf8_valid_len}
-use Rattle.std.proofs.lemmas.Bool.Decides.{nat_tests}
-use Rattle.std.proofs.lemmas.List.Elements.{All-nil, All-cons}
 use lib.Utf8.{encode}
 use Rattle.kernel_text.specs.declared.fault.KernelWhy.TheVariants as why
 use Rattle.kernel_text.specs.declared.token.Word.TheVariants as word
@@ -14,10 +12,11 @@ use Rattle.kernel_text.specs.declared.token.Lexeme.{Lexeme}
 use Rattle.kernel_text.specs.declared.token.Lexeme.TheVariants.{Reserved, Number}
 use Rattle.kernel_text.specs.declared.token.Token.{Token}
 use Rattle.kernel_text.specs.Tokens.{lexeme_at, tokens_from, tokens_of}
-use Rattle.kernel_text.specs.Grammar.{Tree, NumberAt, NameAt, TidAt, SpanAt, Element, Group, Minus, Binary, named, number, reserved, mark, sign_of, tree_tokens, Stmts, NoMore, Let, Assign, Store, Update, If, IfElse, Loop, Parallel, For, Barrier, Critical, CriticalOf, stmts_tokens, Declaration, ArrayOf, MutexOf, declarations_tokens, KernelTree, kernel_tokens, IsKernel, IsShallow}
-use Rattle.kernel_text.specs.Faults.{tree_levels, stmts_levels, flat, block_levels, kernel_levels, BeginsShallow}
+use Rattle.kernel_text.specs.Grammar.{Tree, NumberAt, NameAt, TidAt, SpanAt, Element, Group, Minus, Binary, named, number, reserved, mark, sign_of, tree_tokens, Stmts, NoMore, Let, Assign, Store, Update, If, IfElse, Loop, Parallel, For, Barrier, Critical, CriticalOf, stmts_tokens, Declaration, ArrayOf, MutexOf, declarations_tokens, KernelTree, kernel_tokens, IsKernel}
+use Rattle.kernel_text.specs.Faults.{tree_levels, stmts_levels, flat, block_levels, kernel_levels, BeginsShallow, IsShallow}
+use Rattle.kernel_text.proofs.Levels.{shallow_is_low}
 use Rattle.kernel_reader.specs.KernelOf.{IsRefused, AtTokens, AtSyntax, AtDepth, AtEnd}
-use Rattle.kernel_reader.proofs.Texts.{ascii_tokens, ascii_fault, lines}
+use Rattle.kernel_reader.proofs.Texts.{ascii_tokens, ascii_fault, lines, low}
 
 -- ---- for a token
 
@@ -32,11 +31,6 @@ unfolding tokens_of is_utf8 chars encode utf8_valid_len
 not_utf8_refused = AtTokens refl
 
 -- ---- by the grammar
-
--- levels that are written out
-low : (ns : List ℕ) → list_all (λ n. nat_le n 32) ns ≡ true → All (λ n. n ≤ 32) ns
-low [] all = All-nil (λ n. n ≤ 32)
-low (n ∷ ns) all = All-cons (λ n. n ≤ 32) n ns (grind (arith, nat_tests)) (low ns (grind (arith, nat_tests)))
 
 -- the first tokens of a kernel that is written out
 begins : (ts : List Token) (k : KernelTree) (rest : List Token) → IsKernel k → kernel_tokens k ≡ ts ++ rest → list_all (λ n. nat_le n 32) (take (length ts) (kernel_levels k)) ≡ true → BeginsShallow ts
@@ -222,7 +216,7 @@ brackets_refused = AtDepth (open_tokens 33) (mark 2 sign.OpenParen) (ascii_token
 
 -- of two whole kernels that differ in one pair of brackets, one is too deep
 pub brackets_shallow : IsShallow (assigned 32) × (IsShallow (assigned 33) → ⊥)
-brackets_shallow = ((omega arith, tt), λ s. absurd (omega (arith, s.0)))
+brackets_shallow = ((shallow_is_low (assigned 32)).0 (omega arith, tt), λ s. let low = (shallow_is_low (assigned 33)).1 s in absurd (omega (arith, low.0)))
 
 -- ---- for the depth of blocks
 

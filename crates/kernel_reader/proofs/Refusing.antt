@@ -10,7 +10,6 @@ use Rattle.kernel_text.specs.Tokens.{Refusal, tokens_of, line_at}
 use Rattle.kernel_text.specs.Grammar.{kernel_tokens}
 use Rattle.kernel_text.specs.Faults.{kernel_levels, IsSyntaxFault, IsTooDeep, EndsEarly, IsVerdict}
 use Rattle.kernel_reader.specs.KernelOf.{IsKernelOf, IsRefused, AtSyntax, AtDepth, AtEnd}
-use Rattle.kernel_text.proofs.Levels.{shallow_is_low}
 
 abbrev told : List Token → Result (List Token) Refusal
 told ts = Ok ts
@@ -43,7 +42,7 @@ not_too_deep text ts bad e f p k =
       f.rest,
       k.derives,
       parts-as (kernel_tokens k.tree) ts f.good f.rest bad (tree-tokens text ts p k e) f.parts,
-      All-from_recursion (λ n. n ≤ 32) _ (take-low (length (f.good ++ bad ∷ [])) (kernel_levels k.tree) (recursion_from_All (λ n. n ≤ 32) _ ((shallow_is_low k.tree).0 k.shallow))),
+      All-from_recursion (λ n. n ≤ 32) _ (take-low (length (f.good ++ bad ∷ [])) (kernel_levels k.tree) (recursion_from_All (λ n. n ≤ 32) _ k.shallow)),
     )
 
 pub not_early : (text : List ℕ) (ts : List Token) → tokens_of text ≡ Ok ts → EndsEarly ts → (p : Program) → IsKernelOf text p → ⊥

@@ -1,8 +1,10 @@
 -- Whole texts by the definitions: the kernel of each, or the rule that it breaks first, worked out by hand.
-use Rattle.std.proofs.Common.{◌≡◌, refl, rules, arith, ℕ, ◌+◌, Bool, true, false, nat_lt, length, List, [], ◌∷◌, ◌++◌, None, Ok, Err}
-use Rattle.std.specs.Prelude.{◌&&◌, pos, codes, flat_map}
+use Rattle.std.proofs.Common.{◌≡◌, refl, rules, arith, ℕ, ◌+◌, ◌≤◌, Bool, true, false, nat_lt, length, List, [], ◌∷◌, ◌++◌, None, Ok, Err}
+use Rattle.std.specs.Prelude.{◌&&◌, pos, codes, flat_map, nat_le, All}
+use Rattle.std.specs.List.{list_all}
 use Rattle.std.specs.Str.{IsAscii}
 use Rattle.std.proofs.lemmas.Bool.Decides.{nat_tests}
+use Rattle.std.proofs.lemmas.List.Elements.{All-nil, All-cons}
 use Rattle.std.proofs.lemmas.Str.{IsUtf8-from_ascii, is_utf8-from_IsUtf8}
 use Rattle.std.proofs.lemmas.Str.Ascii.{IsAscii-nil, IsAscii-cons}
 use Rattle.kernel_text.specs.declared.token.Token.{Token}
@@ -40,6 +42,11 @@ pub ascii_fault : (bs : List ℕ) (line : ℕ) → all_ascii bs ≡ true → nat
 unfolding tokens_of
 ascii_fault bs line all short is = rw (short, is_utf8-from_IsUtf8 bs (IsUtf8-from_ascii bs (is_ascii bs all)), is) refl
 
+-- levels that are written out
+pub low : (ns : List ℕ) → list_all (λ n. nat_le n 32) ns ≡ true → All (λ n. n ≤ 32) ns
+low [] all = All-nil (λ n. n ≤ 32)
+low (n ∷ ns) all = All-cons (λ n. n ≤ 32) n ns (grind (arith, nat_tests)) (low ns (grind (arith, nat_tests)))
+
 abbrev pub lines : List (List ℕ) → List ℕ
 lines ls = flat_map (λ (l : List ℕ). l ++ 10 ∷ []) ls
 
@@ -74,22 +81,25 @@ branch_program = record {
   slots = 1;
 }
 
+abbrev branch_parsed : KernelTree
+branch_parsed = record {
+  declarations = array_a 8 ∷ [];
+  line = 2;
+  opened = 2;
+  body =
+      Parallel 2 2 (pos 2) 2
+      (If 3 (Binary (TidAt 3) Eq 3 (number 3 1)) 3
+      (Let 4 4 (codes "k") 4 (number 4 8) (Store 5 (codes "a") 5 (NameAt 5 (codes "k")) 5 5 (number 5 1) NoMore)) 6 NoMore) 7 NoMore;
+  closed = 7;
+}
+
 pub branch_kernel : IsKernelOf branch_text branch_program
 unfolding tokens_of tokens_from lexeme_at
 branch_kernel = record {
-  tree = record {
-    declarations = array_a 8 ∷ [];
-    line = 2;
-    opened = 2;
-    body =
-        Parallel 2 2 (pos 2) 2
-        (If 3 (Binary (TidAt 3) Eq 3 (number 3 1)) 3
-        (Let 4 4 (codes "k") 4 (number 4 8) (Store 5 (codes "a") 5 (NameAt 5 (codes "k")) 5 5 (number 5 1) NoMore)) 6 NoMore) 7 NoMore;
-    closed = 7;
-  };
+  tree = branch_parsed;
   tokens = ascii_tokens branch_text _ refl refl refl;
   derives = search rules;
-  shallow = search rules;
+  shallow = low (kernel_levels branch_parsed) refl;
   lawful = refl;
   resolved = refl;
 }
@@ -117,6 +127,15 @@ locked_tree line k mutex rest =
     If line (Binary (TidAt line) Eq line (number line k)) line
     (CriticalOf line line mutex line (Store line (codes "s") line (number line 0) line line (number line (k + 1)) NoMore) line NoMore) line rest
 
+abbrev locked_parsed : KernelTree
+locked_parsed = record {
+  declarations = ArrayOf 1 1 (codes "s") 1 (codes "i64") 1 (pos 1) ∷ MutexOf 2 2 (codes "c") ∷ MutexOf 3 3 (codes "d") ∷ [];
+  line = 4;
+  opened = 4;
+  body = Parallel 4 4 (pos 2) 4 (locked_tree 5 0 (codes "c") (locked_tree 6 1 (codes "d") NoMore)) 7 NoMore;
+  closed = 7;
+}
+
 pub locked_kernel : IsKernelOf locked_text
     (record {
       arrays = first_array (codes "s") 1;
@@ -126,16 +145,10 @@ pub locked_kernel : IsKernelOf locked_text
     })
 unfolding tokens_of tokens_from lexeme_at
 locked_kernel = record {
-  tree = record {
-    declarations = ArrayOf 1 1 (codes "s") 1 (codes "i64") 1 (pos 1) ∷ MutexOf 2 2 (codes "c") ∷ MutexOf 3 3 (codes "d") ∷ [];
-    line = 4;
-    opened = 4;
-    body = Parallel 4 4 (pos 2) 4 (locked_tree 5 0 (codes "c") (locked_tree 6 1 (codes "d") NoMore)) 7 NoMore;
-    closed = 7;
-  };
+  tree = locked_parsed;
   tokens = ascii_tokens locked_text _ refl refl refl;
   derives = search rules;
-  shallow = search rules;
+  shallow = low (kernel_levels locked_parsed) refl;
   lawful = refl;
   resolved = refl;
 }
@@ -149,6 +162,21 @@ drawn_text = lines
     ∷ codes "for i in 0 .. 4 dynamic { a[i] = 1 }"
     ∷ codes "for i in 0 .. 4 dynamic 3 { a[i] = a[i] + 1 }"
     ∷ codes "} }" ∷ [])
+
+abbrev drawn_parsed : KernelTree
+drawn_parsed = record {
+  declarations = array_a 4 ∷ [];
+  line = 2;
+  opened = 2;
+  body =
+      Parallel 2 2 (pos 2) 2
+      (For 3 3 (codes "i") 3 (number 3 0) 3 (number 3 4) (Dynamic 3) None 3
+      (Store 3 (codes "a") 3 (NameAt 3 (codes "i")) 3 3 (number 3 1) NoMore) 3
+      (For 4 4 (codes "i") 4 (number 4 0) 4 (number 4 4) (DynamicBy 4 4 (pos 3)) None 4
+      (Store 4 (codes "a") 4 (NameAt 4 (codes "i")) 4 4 (Binary (Element 4 (codes "a") 4 (NameAt 4 (codes "i")) 4) Add 4 (number 4 1)) NoMore) 4
+      NoMore)) 5 NoMore;
+  closed = 5;
+}
 
 pub drawn_kernel : IsKernelOf drawn_text
     (record {
@@ -170,22 +198,10 @@ pub drawn_kernel : IsKernelOf drawn_text
     })
 unfolding tokens_of tokens_from lexeme_at
 drawn_kernel = record {
-  tree = record {
-    declarations = array_a 4 ∷ [];
-    line = 2;
-    opened = 2;
-    body =
-        Parallel 2 2 (pos 2) 2
-        (For 3 3 (codes "i") 3 (number 3 0) 3 (number 3 4) (Dynamic 3) None 3
-        (Store 3 (codes "a") 3 (NameAt 3 (codes "i")) 3 3 (number 3 1) NoMore) 3
-        (For 4 4 (codes "i") 4 (number 4 0) 4 (number 4 4) (DynamicBy 4 4 (pos 3)) None 4
-        (Store 4 (codes "a") 4 (NameAt 4 (codes "i")) 4 4 (Binary (Element 4 (codes "a") 4 (NameAt 4 (codes "i")) 4) Add 4 (number 4 1)) NoMore) 4
-        NoMore)) 5 NoMore;
-    closed = 5;
-  };
+  tree = drawn_parsed;
   tokens = ascii_tokens drawn_text _ refl refl refl;
   derives = search rules;
-  shallow = search rules;
+  shallow = low (kernel_levels drawn_parsed) refl;
   lawful = refl;
   resolved = refl;
 }
@@ -194,6 +210,17 @@ drawn_kernel = record {
 
 abbrev updated_text : List ℕ
 updated_text = lines (codes "array a i64 4" ∷ codes "main {" ∷ codes "atomic" ∷ codes "a[a[0]] += a[1]" ∷ codes "atomic a[2] -= 5" ∷ codes "}" ∷ [])
+
+abbrev updated_parsed : KernelTree
+updated_parsed = record {
+  declarations = array_a 4 ∷ [];
+  line = 2;
+  opened = 2;
+  body =
+      Update 3 4 (codes "a") 4 (Element 4 (codes "a") 4 (number 4 0) 4) 4 false 4 (Element 4 (codes "a") 4 (number 4 1) 4)
+      (Update 5 5 (codes "a") 5 (number 5 2) 5 true 5 (number 5 5) NoMore);
+  closed = 6;
+}
 
 pub updated_kernel : IsKernelOf updated_text
     (record {
@@ -211,18 +238,10 @@ pub updated_kernel : IsKernelOf updated_text
     })
 unfolding tokens_of tokens_from lexeme_at
 updated_kernel = record {
-  tree = record {
-    declarations = array_a 4 ∷ [];
-    line = 2;
-    opened = 2;
-    body =
-        Update 3 4 (codes "a") 4 (Element 4 (codes "a") 4 (number 4 0) 4) 4 false 4 (Element 4 (codes "a") 4 (number 4 1) 4)
-        (Update 5 5 (codes "a") 5 (number 5 2) 5 true 5 (number 5 5) NoMore);
-    closed = 6;
-  };
+  tree = updated_parsed;
   tokens = ascii_tokens updated_text _ refl refl refl;
   derives = search rules;
-  shallow = search rules;
+  shallow = low (kernel_levels updated_parsed) refl;
   lawful = refl;
   resolved = refl;
 }
@@ -243,7 +262,7 @@ uneven = record {
 
 pub uneven_refused : IsRefused uneven_text (record { line = 4; why = why.NotUniform })
 unfolding tokens_of tokens_from lexeme_at
-uneven_refused = AtRule uneven [] (ascii_tokens uneven_text _ refl refl refl) (search rules) (search rules) refl
+uneven_refused = AtRule uneven [] (ascii_tokens uneven_text _ refl refl refl) (search rules) (low (kernel_levels uneven) refl) refl
 
 -- array NAME NAME NUMBER, main, and three blocks that open the levels 1 to 3
 pub uneven_levels : kernel_levels uneven

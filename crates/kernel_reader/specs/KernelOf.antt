@@ -6,8 +6,8 @@ use Rattle.kernel_reader.specs.declared.fault.ReadKernelFault.{ReadKernelFault}
 use Rattle.kernel_reader.specs.declared.fault.ReadKernelFault.TheVariants as read
 use Rattle.kernel_text.specs.declared.token.Token.{Token}
 use Rattle.kernel_text.specs.Tokens.{Refusal, line_at, tokens_of}
-use Rattle.kernel_text.specs.Grammar.{KernelTree, kernel_tokens, IsKernel, IsShallow}
-use Rattle.kernel_text.specs.Faults.{IsSyntaxFault, IsTooDeep, EndsEarly}
+use Rattle.kernel_text.specs.Grammar.{KernelTree, kernel_tokens, IsKernel}
+use Rattle.kernel_text.specs.Faults.{IsSyntaxFault, IsTooDeep, EndsEarly, IsShallow}
 use Rattle.kernel_reader.specs.Rules.{kernel_faults}
 use Rattle.kernel_reader.specs.Resolve.{program}
 

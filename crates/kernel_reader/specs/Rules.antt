@@ -1,7 +1,7 @@
 -- The rules that a kernel has to keep beyond the grammar: each that it breaks, in the order of the text.
 use Rattle.std.specs.Prelude.{ℕ, ◌+◌, ◌*◌, ◌==◌, Bool, true, false, not, ◌||◌, ◌&&◌, List, [], ◌∷◌, ◌++◌, length, Option, Some, None, option_map, is_some, is_none, bytes_eq, codes, if◌then◌else◌, nat_lt, nat_le, unwrap_or, ℤ, neg_ℤ, ◌-ℤ◌}
 use Rattle.kernel_syntax.specs.declared.syntax.Op.{Op}
-use Rattle.kernel_syntax.specs.declared.syntax.Op.TheVariants.{Add, Sub, Mul, Div, Rem, Eq, Ne, Lt, Le, Gt, Ge}
+use Rattle.kernel_syntax.specs.declared.syntax.Op.TheVariants.{Add, Sub, Mul}
 use Rattle.kernel_text.specs.declared.fault.KernelWhy.{KernelWhy}
 use Rattle.kernel_text.specs.declared.fault.KernelWhy.TheVariants as why
 use Rattle.kernel_text.specs.Tokens.{Refusal}
@@ -53,14 +53,7 @@ abbrev pub is_unfit : Op → Bool
 is_unfit Add = false
 is_unfit Sub = false
 is_unfit Mul = false
-is_unfit Div = true
-is_unfit Rem = true
-is_unfit Eq = true
-is_unfit Ne = true
-is_unfit Lt = true
-is_unfit Le = true
-is_unfit Gt = true
-is_unfit Ge = true
+is_unfit _ = true
 
 abbrev pub name_faults : Names → Bool → ℕ → List ℕ → List Refusal
 name_faults n in_bound line name = elim (variable_of name n.scope) [
@@ -158,11 +151,9 @@ abbrev pub chunk_faults : ℕ → ℤ → List Refusal
 chunk_faults line chunk = fault_if (not (is_between 1 1048576 chunk)) line why.Count
 
 abbrev pub schedule_faults : ScheduleTree → List Refusal
-schedule_faults Unsaid = []
-schedule_faults (Static line) = []
 schedule_faults (StaticBy line number_line chunk) = chunk_faults number_line chunk
-schedule_faults (Dynamic line) = []
 schedule_faults (DynamicBy line number_line chunk) = chunk_faults number_line chunk
+schedule_faults _ = []
 
 -- the sections around a critical section have smaller mutexes, and they are fewer than eight
 abbrev pub critical_faults : Place → ℕ → ℕ → List Refusal

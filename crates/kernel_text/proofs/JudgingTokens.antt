@@ -13,7 +13,7 @@ use Rattle.kernel_text.specs.declared.judging.Judgement.TheVariants as verdict
 use Rattle.kernel_text.specs.Grammar.{NumberAt, Unsaid, NoMore, declarations_tokens, KernelTree, kernel_tokens, IsKernel}
 use Rattle.kernel_text.specs.Faults.{kernel_levels, BeginsShallow, IsVerdict}
 use Rattle.kernel_text.specs.Wanting.{Last, Braced, Plain, At, Value, value_tokens, Fill, fill_tokens, fill_levels, Fulfils, GoesOnWith, EndsAt, AreDelimited, LeadsTo, Refuses, stack_of}
-use Rattle.kernel_text.proofs.Levels.{AreLow, join, shallow_is_low}
+use Rattle.kernel_text.proofs.Levels.{AreLow, join}
 
 -- the least that can stand there
 abbrev least_block : Braced
@@ -164,7 +164,7 @@ is-kernel ts rest s j e f =
     let levels : kernel_levels k ≡ j.levels = sym (append-nil (kernel_levels k)) ∙ r.levels ∙ append-nil j.levels in (
       k,
       r.fill.0.1,
-      (shallow_is_low k).1 (All-from_recursion (λ n. n ≤ 32) _ (subst AreLow (sym levels) j.low)),
+      All-from_recursion (λ n. n ≤ 32) _ (subst AreLow (sym levels) j.low),
       sym (append-nil (kernel_tokens k)) ∙ r.tokens ∙ ap (λ (us : List Token). j.good ++ us) (sym e) ∙ sym j.parts,
     )
 

@@ -1,11 +1,11 @@
 -- A kernel has at most 32 levels exactly where none of its tokens opens a level above 32.
 use Rattle.std.proofs.Common.{◌≡◌, arith, ℕ, ◌+◌, ◌-◌, ◌≤◌, List, [], ◌∷◌, ◌++◌}
-use Rattle.std.specs.Prelude.{◌↔◌, All}
+use Rattle.std.specs.Prelude.{◌↔◌}
 use Rattle.std.specs.List.{AllByRecursion}
 use Rattle.std.proofs.lemmas.List.Elements.{All-from_recursion, recursion_from_All}
 use Rattle.kernel_text.specs.declared.token.Token.{Token}
-use Rattle.kernel_text.specs.Grammar.{Tree, NumberAt, NameAt, TidAt, SpanAt, Element, Group, Minus, Binary, depth, schedule_tokens, nowait_tokens, Stmts, NoMore, Let, Assign, Store, Update, If, IfElse, Loop, Parallel, For, Barrier, Critical, CriticalOf, AreShallow, declarations_tokens, KernelTree, IsShallow}
-use Rattle.kernel_text.specs.Faults.{tree_levels, flat, block_levels, range_levels, stmts_levels, kernel_levels}
+use Rattle.kernel_text.specs.Grammar.{Tree, NumberAt, NameAt, TidAt, SpanAt, Element, Group, Minus, Binary, depth, schedule_tokens, nowait_tokens, Stmts, NoMore, Let, Assign, Store, Update, If, IfElse, Loop, Parallel, For, Barrier, Critical, CriticalOf, AreShallow, declarations_tokens, KernelTree}
+use Rattle.kernel_text.specs.Faults.{tree_levels, flat, block_levels, range_levels, stmts_levels, kernel_levels, IsShallow}
 
 abbrev pub AreLow : List ℕ → Type 0
 AreLow ns = AllByRecursion (λ n. n ≤ 32) ns
@@ -144,7 +144,7 @@ low_stmts (CriticalOf _ _ _ _ body _ rest) m n e all =
 
 -- ---- kernels
 
-pub shallow_is_low : (k : KernelTree) → IsShallow k ↔ All (λ n. n ≤ 32) (kernel_levels k)
+pub shallow_is_low : (k : KernelTree) → AreShallow 31 k.body ↔ IsShallow k
 shallow_is_low k = (
   λ s. All-from_recursion (λ n. n ≤ 32) (kernel_levels k) (join (flat (declarations_tokens k.declarations)) _ (flat_low (declarations_tokens k.declarations))
       (no_level, (omega arith, join (stmts_levels 1 k.body) (0 ∷ []) (stmts_low k.body 31 1 (omega arith) s) (no_level, tt)))),

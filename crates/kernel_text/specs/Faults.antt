@@ -3,7 +3,7 @@ use Rattle.std.specs.Prelude.{◌≡◌, ℕ, ◌+◌, ◌≤◌, List, [], ◌�
 use Rattle.kernel_text.specs.declared.token.Token.{Token}
 use Rattle.kernel_text.specs.declared.judging.Judgement.{Judgement}
 use Rattle.kernel_text.specs.declared.judging.Judgement.TheVariants as verdict
-use Rattle.kernel_text.specs.Grammar.{Tree, NumberAt, NameAt, TidAt, SpanAt, Element, Group, Minus, Binary, schedule_tokens, nowait_tokens, Stmts, NoMore, Let, Assign, Store, Update, If, IfElse, Loop, Parallel, For, Barrier, Critical, CriticalOf, declarations_tokens, KernelTree, kernel_tokens, IsKernel, IsShallow}
+use Rattle.kernel_text.specs.Grammar.{Tree, NumberAt, NameAt, TidAt, SpanAt, Element, Group, Minus, Binary, schedule_tokens, nowait_tokens, Stmts, NoMore, Let, Assign, Store, Update, If, IfElse, Loop, Parallel, For, Barrier, Critical, CriticalOf, declarations_tokens, KernelTree, kernel_tokens, IsKernel}
 
 -- for each token of an expression the level that it opens, or 0; so many levels are open around
 abbrev pub tree_levels : ℕ → Tree → List ℕ
@@ -50,6 +50,10 @@ stmts_levels n (CriticalOf line name_line name opened body closed rest) = 0 ∷ 
 
 abbrev pub kernel_levels : KernelTree → List ℕ
 kernel_levels k = flat (declarations_tokens k.declarations) ++ 0 ∷ block_levels 0 (stmts_levels 1 k.body)
+
+-- no token opens a level above 32
+abbrev pub IsShallow : KernelTree → Type 0
+IsShallow k = All (λ n. n ≤ 32) (kernel_levels k)
 
 -- the tokens are the first of some kernel
 abbrev pub Begins : List Token → Type 0

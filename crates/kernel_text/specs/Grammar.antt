@@ -1,5 +1,5 @@
 -- The grammar of a kernel: its parse trees, in which each token has its line, and the tokens of each.
-use Rattle.std.specs.Prelude.{◌≡◌, ℕ, ◌+◌, ◌-◌, ◌≤◌, ℤ, max, Bool, true, false, List, [], ◌∷◌, ◌++◌, Option, Some, None}
+use Rattle.std.specs.Prelude.{◌≡◌, ℕ, ◌+◌, ◌-◌, ◌≤◌, ℤ, max, min, Bool, true, false, List, [], ◌∷◌, ◌++◌, Option, Some, None}
 use Rattle.kernel_syntax.specs.declared.syntax.Op.{Op}
 use Rattle.kernel_syntax.specs.declared.syntax.Op.TheVariants.{Add, Sub, Mul, Div, Rem, Eq, Ne, Lt, Le, Gt, Ge}
 use Rattle.kernel_text.specs.declared.token.Word.{Word}
@@ -110,40 +110,15 @@ rank_of Sub = sum
 rank_of Mul = product
 rank_of Div = product
 rank_of Rem = product
-rank_of Eq = expr
-rank_of Ne = expr
-rank_of Lt = expr
-rank_of Le = expr
-rank_of Gt = expr
-rank_of Ge = expr
+rank_of _ = expr
 
 -- what may stand to its left: products and sums group from the left, and a comparison stands between sums
 abbrev pub left_rank : Op → ℕ
-left_rank Add = sum
-left_rank Sub = sum
-left_rank Mul = product
-left_rank Div = product
-left_rank Rem = product
-left_rank Eq = sum
-left_rank Ne = sum
-left_rank Lt = sum
-left_rank Le = sum
-left_rank Gt = sum
-left_rank Ge = sum
+left_rank op = min sum (rank_of op)
 
--- and to its right
+-- and to its right: what binds tighter
 abbrev pub right_rank : Op → ℕ
-right_rank Add = product
-right_rank Sub = product
-right_rank Mul = unary
-right_rank Div = unary
-right_rank Rem = unary
-right_rank Eq = sum
-right_rank Ne = sum
-right_rank Lt = sum
-right_rank Le = sum
-right_rank Gt = sum
-right_rank Ge = sum
+right_rank op = rank_of op - 1
 
 -- the productions of expressions, by rank:
 --   expr    := sum [ ("==" | "!=" | "<" | "<=" | ">" | ">=") sum ]
@@ -335,7 +310,3 @@ kernel_tokens k = declarations_tokens k.declarations ++ reserved k.line word.Mai
 -- a tree by the productions
 abbrev pub IsKernel : KernelTree → Type 0
 IsKernel k = StmtsDerive k.body
-
--- at most 32 levels of blocks and of each expression
-abbrev pub IsShallow : KernelTree → Type 0
-IsShallow k = AreShallow 31 k.body

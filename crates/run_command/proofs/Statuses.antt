@@ -9,6 +9,7 @@ use Rattle.kernel_reader.specs.KernelOf.{IsKernelOf}
 use Rattle.kernel_file.specs.Due as file
 use Rattle.kernel_file.specs.Due.{KernelDue}
 use Rattle.kernel_file.specs.Holding.{HoldsKernel}
+use Rattle.kernel_laws.proofs.OneAnswer.{kernel-or-refusal}
 use Rattle.command_answer.specs.Answer.{IsFailure, Tries}
 use Rattle.command_answer.specs.declared.status.TheConstants.{DONE, INDEX_THERE, KERNEL_REFUSED, KERNEL_STOPPED}
 use Rattle.run_command.specs.declared.outcome.Outcome.{Outcome}
@@ -20,7 +21,7 @@ module _ (files : Files) (kernel dir : List ℕ) where
   apart : (program : Program) → HoldsNoKernel files kernel → HoldsKernel files kernel program → ⊥
   apart program (no_file none) holds = none-some holds.text (sym none ∙ holds.held)
   apart program (no_kernel line why fault) holds =
-      fault.none program (subst (λ (text : List ℕ). IsKernelOf text program) (same_Some holds.text fault.text (sym holds.held ∙ fault.held)) holds.kernel)
+      kernel-or-refusal fault.text program (record { line = line; why = why }) (subst (λ (text : List ℕ). IsKernelOf text program) (same_Some holds.text fault.text (sym holds.held ∙ fault.held)) holds.kernel) fault.fault_is
 
   -- a folder has an index or none
   begins_fresh : HasIndex files kernel dir → MayStart files kernel dir → ⊥

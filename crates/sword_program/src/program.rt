@@ -3,7 +3,7 @@ ghost use Rattle.std.specs.Prelude.{◌≡◌, ◌⊎◌, ℕ};
 ghost use Rattle.std.specs.Process.{exit_status};
 ghost use Rattle.command_answer.specs.Answer.{IsFailure};
 ghost use Rattle.command_answer.specs.declared.status.TheConstants.{READ_FAULT, USAGE};
-ghost use Rattle.top_call.specs.Arguments.{AsksToRead, IsUsage, texts};
+ghost use Rattle.command_line.specs.Arguments.{AsksToRead, IsUsage, texts};
 
 use command_answer::NO_MEMORY;
 use host_environment::{HostFolder, HostOut, given_arguments};

@@ -1,2 +1,1 @@
-pub mod ArgumentLists
-pub mod FolderRequests
+pub mod Usage

@@ -4,7 +4,6 @@
 //! first bad place, and a run that ends leaves each task's whole trace under the values that it read, in one history of all tasks.
 #![tactic(auto)]
 
-mod arguments;
 mod running;
 mod top;
 

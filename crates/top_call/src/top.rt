@@ -12,13 +12,14 @@ ghost use Rattle.folder_commands.specs.Replay.{ReplayDue};
 ghost use Rattle.folder_commands.specs.Show.{ShowsRecords};
 ghost use Rattle.folder_commands.specs.Upgrade.{IsUpgraded, UpgradeDue};
 ghost use Rattle.log_upgrade.specs.Upgrade.{LeavesUpgrade};
-ghost use Rattle.top_call.specs.Arguments.{AsksOfRun, AsksToRead, AsksToWrite, AsksUpgrade, BeginsToWrite, IsUsage, SaysCertify, SaysCheck, SaysConfirm, SaysExplain, SaysGen, SaysReplay, SaysRun, SaysShow, SaysUpgrade, UsageDue, texts};
+ghost use Rattle.command_line.specs.Arguments.{AsksOfRun, AsksToRead, AsksToWrite, AsksUpgrade, IsUsage, SaysCertify, SaysCheck, SaysConfirm, SaysExplain, SaysGen, SaysReplay, SaysRun, SaysShow, SaysUpgrade, texts};
+ghost use Rattle.top_call.specs.Requests.{BeginsToWrite, UsageDue};
 ghost use Rattle.command_answer.specs.declared.status.TheConstants.{DONE, USAGE, READ_FAULT, WRITE_FAULT};
 
-use crate::arguments::{Command, read_arguments};
 use crate::running::run_file;
 use certify_command::certify_file;
 use command_answer::{NO_MEMORY, USAGE, print};
+use command_line::{Command, read_arguments};
 use folder_commands::{
     check, check_generated, confirm_records, explain_lines, replay_file, show, upgrade_folder,
 };

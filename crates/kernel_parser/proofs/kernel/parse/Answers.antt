@@ -1,7 +1,9 @@
 use Rattle.std.proofs.Common.{◌≡◌, List, []}
 use Rattle.std.proofs.lemmas.Result.{err_from_is_err_and}
 use Rattle.kernel_text.specs.declared.token.Token.{Token}
-use Rattle.kernel_text.specs.Grammar.{KernelTree, IsKernel, IsShallow, block, stmts_tokens}
+use Rattle.kernel_text.specs.Grammar.{KernelTree, IsKernel, block, stmts_tokens}
+use Rattle.kernel_text.specs.Faults.{IsShallow}
+use Rattle.kernel_text.proofs.Levels.{shallow_is_low}
 use Rattle.kernel_parser.specs.Trees.{declaration_of, stmts_of}
 use Rattle.kernel_parser.specs.Parsing.{IsBlockRead}
 use Rattle.kernel_parser.proofs.Rests.{only-fault}
@@ -10,7 +12,7 @@ use Rattle.kernel_parser.proofs.kernel.parse.Goals as goal
 use Rattle.std.specs.Prelude.{map}
 
 main-block : (k : KernelTree) (us : List Token) → IsKernel k → IsShallow k → us ≡ block k.opened (stmts_tokens k.body) k.closed → IsBlockRead us k.opened k.body k.closed []
-main-block k us d s us_is = record { levels = 31; parts = us_is; derives = d; shallow = s }
+main-block k us d s us_is = record { levels = 31; parts = us_is; derives = d; shallow = (shallow_is_low k).1 s }
 
 pub returns-in_err-body : goal.returns-in_err-body
 returns-in_err-body c =

@@ -9,9 +9,11 @@ use Rattle.folder_commands.specs.Confirm.{HasConfirmation}
 use Rattle.folder_commands.specs.Explain.{HasExplanation}
 use Rattle.run_command.specs.Run.{LeavesPart, RunDue}
 use Rattle.folder_commands.specs.Show.{ShowsRecords}
-use Rattle.top_call.specs.Arguments.{UsageDue, certify, check, confirm, explain, gen, replay, run, show, texts, to_check, to_confirm, to_explain, to_show, upgrade}
-use Rattle.top_call.proofs.FolderRequests.{not_certify, not_gen, not_replay, not_run, not_upgrade, not_usage, one_folder}
-use Rattle.top_call.proofs.ArgumentLists.{same_certify, same_check, same_confirm, same_explain, same_gen, same_replay, same_run, same_show, same_upgrade, usage_once}
+use Rattle.command_line.specs.Arguments.{certify, check, confirm, explain, gen, replay, run, show, texts, to_check, to_confirm, to_explain, to_show, upgrade}
+use Rattle.top_call.specs.Requests.{UsageDue}
+use Rattle.command_line.proofs.FolderRequests.{not_certify, not_gen, not_replay, not_run, not_upgrade, not_usage, one_folder}
+use Rattle.command_line.proofs.ArgumentLists.{same_certify, same_check, same_confirm, same_explain, same_gen, same_replay, same_run, same_show, same_upgrade}
+use Rattle.top_call.proofs.Usage.{usage_once}
 use Rattle.folder_commands.specs.Gen.{GenDue}
 use Rattle.folder_commands.specs.Replay.{ReplayDue}
 use Rattle.folder_commands.specs.Upgrade.{IsUpgraded, UpgradeDue}

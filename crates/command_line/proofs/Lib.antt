@@ -1,0 +1,2 @@
+pub mod ArgumentLists
+pub mod FolderRequests
