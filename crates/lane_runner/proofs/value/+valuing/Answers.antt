@@ -1,10 +1,12 @@
 -- Each kind of expression, from what its parts made.
-use Rattle.std.proofs.Common.{◌≡◌, ◌-◌, ◌/◌, ◌+◌, ◌<◌, ◌≤◌, min, suc, ℕ, ℤ, ap, sym, subst, ◌∙◌, Err, pos, w64, to_z, of_z, FitsSigned, rules, arith}
+use Rattle.std.proofs.Common.{◌≡◌, ◌-◌, ◌/◌, ◌+◌, ◌<◌, ◌≤◌, min, suc, ℕ, ℤ, ap, sym, subst, ◌∙◌, Err, pos, Box, Global, w64, to_z, of_z, FitsSigned, rules, arith}
 use Rattle.std.specs.Prelude.{slice_index_or, ok_or}
 use Rattle.std.proofs.lemmas.Result.{err_from_is_err_and}
 use Rattle.std.proofs.lemmas.Int.{to_z-of_z}
 use Rattle.log_format.specs.Limit.{record_limit}
+use Rattle.kernel_syntax.specs.declared.syntax.Expr as variant
 use Rattle.kernel_syntax.specs.declared.syntax.Expr.{Expr}
+use Rattle.kernel_syntax.specs.declared.syntax.Op.{Op}
 use Rattle.kernel_syntax.specs.Program.{term_of}
 use Rattle.kernel_syntax.specs.Arithmetic.{negated, applied}
 use Rattle.kernel_syntax.specs.Tree as tree
@@ -85,24 +87,40 @@ compound-returns-in_ok-negated-in-Neg-clause-goes g t c =
 pub compound-load-requires-clause-can : goal.compound-load-requires-clause-can
 compound-load-requires-clause-can g t c κs given = can_follow _ _ _ _ _ _ _ c.requires.can c.in_ok-at-in-Load.ensures.goes
 
-pub compound-returns-in_err-first-in-Binary-clause-goes : goal.compound-returns-in_err-first-in-Binary-clause-goes
-compound-returns-in_err-first-in-Binary-clause-goes g t c =
-    let p = err_from_is_err_and c.from_residual-in_err-first-in-Binary.result c.from_residual-in_err-first-in-Binary.ensures.1 in
-    let why = halt.Own c.in_err-first-in-Binary.field-0.0 in
+pub compound-returns-in_err-lowest-in-Binary-clause-goes : goal.compound-returns-in_err-lowest-in-Binary-clause-goes
+compound-returns-in_err-lowest-in-Binary-clause-goes g t c =
+    let p = err_from_is_err_and c.from_residual-in_err-lowest-in-Binary.result c.from_residual-in_err-lowest-in-Binary.ensures.1 in
+    let why = halt.Own c.in_err-lowest-in-Binary.field-0.0 in
     rw (p.1, p.2)
-    (subst (λ (e : Expr). Goes c.args.world.now (value (site c.args.world.now) (term_of e)) c.args.locals.now.slots.items c.args.locals.now.slots.items c.args.track.now c.operand.new.track (Err why)) (sym c.in-Binary.is)
-    (left_stops c.args.world.now (site c.args.world.now) c.args.locals.now.slots.items c.in-Binary.op c.in-Binary.line (term_of c.in-Binary.left.value) (term_of c.in-Binary.right.value) c.args.track.now c.operand.new.track why
-    (subst (λ (x : Expr). Goes c.args.world.now (value (site c.args.world.now) (term_of x)) c.args.locals.now.slots.items c.args.locals.now.slots.items c.args.track.now c.operand.new.track (Err why)) c.deref-in-Binary.ensures c.in_err-first-in-Binary.ensures.goes)))
+    (below_stops c.args.world.now (site c.args.world.now) c.args.locals.now.slots.items (term_of c.args.expr.now) c.left_depth-levels.result c.args.track.now c.valued-in-Binary.new.track why
+    (subst (λ (e : Term). Goes c.args.world.now (value (site c.args.world.now) e) c.args.locals.now.slots.items c.args.locals.now.slots.items c.args.track.now c.valued-in-Binary.new.track (Err why)) c.left_by.ensures c.in_err-lowest-in-Binary.ensures.goes))
 
-pub compound-returns-in_ok-first-in-Binary-clause-goes : goal.compound-returns-in_ok-first-in-Binary-clause-goes
-compound-returns-in_ok-first-in-Binary-clause-goes g t c =
-    let v = c.in_ok-first-in-Binary.first in
-    let top = subst (λ (e : Expr). Goes c.args.world.now (value (site c.args.world.now) (with_left (term_of e) 1 v)) c.args.locals.now.slots.items c.args.locals.now.slots.items c.operand.new.track c.top.new.track (lane_answer c.top.result)) c.in-Binary.is
-    (subst (λ (z : ℤ). Goes c.args.world.now (value (site c.args.world.now) (with_left (term_of c.args.expr.now) 1 z)) c.args.locals.now.slots.items c.args.locals.now.slots.items c.operand.new.track c.top.new.track (lane_answer c.top.result))
+pub compound-returns-in_ok-lowest-in-Binary-clause-goes : goal.compound-returns-in_ok-lowest-in-Binary-clause-goes
+compound-returns-in_ok-lowest-in-Binary-clause-goes g t c =
+    let v = c.in_ok-lowest-in-Binary.lowest in
+    below_goes c.args.world.now (site c.args.world.now) c.args.locals.now.slots.items (term_of c.args.expr.now) c.left_depth-levels.result c.args.track.now c.valued-in-Binary.new.track c.climb.new.track v (lane_answer c.climb.result)
+    (subst (λ (e : Term). Made c.args.world.now (value (site c.args.world.now) e) c.args.locals.now.slots.items c.args.locals.now.slots.items c.args.track.now c.valued-in-Binary.new.track (Returned v)) c.left_by.ensures c.in_ok-lowest-in-Binary.ensures.goes)
+    (subst (λ (z : ℤ). Goes c.args.world.now (value (site c.args.world.now) (with_left (term_of c.args.expr.now) c.left_depth-levels.result z)) c.args.locals.now.slots.items c.args.locals.now.slots.items c.valued-in-Binary.new.track c.climb.new.track (lane_answer c.climb.result))
+    (let fits : FitsSigned w64 v = search rules in to_z-of_z w64 v fits) c.climb.ensures.goes)
+
+pub compound-returns-in_err-first-in-Binary-2-clause-goes : goal.compound-returns-in_err-first-in-Binary-2-clause-goes
+compound-returns-in_err-first-in-Binary-2-clause-goes g t c =
+    let p = err_from_is_err_and c.from_residual-in_err-first-in-Binary-2.result c.from_residual-in_err-first-in-Binary-2.ensures.1 in
+    let why = halt.Own c.in_err-first-in-Binary-2.field-0.0 in
+    rw (p.1, p.2)
+    (subst (λ (e : Expr). Goes c.args.world.now (value (site c.args.world.now) (term_of e)) c.args.locals.now.slots.items c.args.locals.now.slots.items c.args.track.now c.valued-in-Binary-2.new.track (Err why)) (sym c.in-Binary-2.is)
+    (left_stops c.args.world.now (site c.args.world.now) c.args.locals.now.slots.items c.in-Binary-2.op c.in-Binary-2.line (term_of c.in-Binary-2.left.value) (term_of c.in-Binary-2.right.value) c.args.track.now c.valued-in-Binary-2.new.track why
+    (subst (λ (x : Expr). Goes c.args.world.now (value (site c.args.world.now) (term_of x)) c.args.locals.now.slots.items c.args.locals.now.slots.items c.args.track.now c.valued-in-Binary-2.new.track (Err why)) c.deref-in-Binary-2.ensures c.in_err-first-in-Binary-2.ensures.goes)))
+
+pub compound-returns-in_ok-first-in-Binary-2-clause-goes : goal.compound-returns-in_ok-first-in-Binary-2-clause-goes
+compound-returns-in_ok-first-in-Binary-2-clause-goes g t c =
+    let v = c.in_ok-first-in-Binary-2.first in
+    let top = subst (λ (e : Expr). Goes c.args.world.now (value (site c.args.world.now) (with_left (term_of e) 1 v)) c.args.locals.now.slots.items c.args.locals.now.slots.items c.valued-in-Binary-2.new.track c.top.new.track (lane_answer c.top.result)) c.in-Binary-2.is
+    (subst (λ (z : ℤ). Goes c.args.world.now (value (site c.args.world.now) (with_left (term_of c.args.expr.now) 1 z)) c.args.locals.now.slots.items c.args.locals.now.slots.items c.valued-in-Binary-2.new.track c.top.new.track (lane_answer c.top.result))
     (let fits : FitsSigned w64 v = search rules in to_z-of_z w64 v fits) c.top.ensures.goes) in
-    subst (λ (e : Expr). Goes c.args.world.now (value (site c.args.world.now) (term_of e)) c.args.locals.now.slots.items c.args.locals.now.slots.items c.args.track.now c.top.new.track (lane_answer c.top.result)) (sym c.in-Binary.is)
-    (operand_goes c.args.world.now (site c.args.world.now) c.args.locals.now.slots.items c.in-Binary.op c.in-Binary.line (term_of c.in-Binary.left.value) (term_of c.in-Binary.right.value) v c.args.track.now c.operand.new.track c.requires.can (lane_answer c.top.result)
-    (subst (λ (x : Expr). Made c.args.world.now (value (site c.args.world.now) (term_of x)) c.args.locals.now.slots.items c.args.locals.now.slots.items c.args.track.now c.operand.new.track (Returned v)) c.deref-in-Binary.ensures c.in_ok-first-in-Binary.ensures.goes) c.top.new.track top)
+    subst (λ (e : Expr). Goes c.args.world.now (value (site c.args.world.now) (term_of e)) c.args.locals.now.slots.items c.args.locals.now.slots.items c.args.track.now c.top.new.track (lane_answer c.top.result)) (sym c.in-Binary-2.is)
+    (operand_goes c.args.world.now (site c.args.world.now) c.args.locals.now.slots.items c.in-Binary-2.op c.in-Binary-2.line (term_of c.in-Binary-2.left.value) (term_of c.in-Binary-2.right.value) v c.args.track.now c.valued-in-Binary-2.new.track c.requires.can (lane_answer c.top.result)
+    (subst (λ (x : Expr). Made c.args.world.now (value (site c.args.world.now) (term_of x)) c.args.locals.now.slots.items c.args.locals.now.slots.items c.args.track.now c.valued-in-Binary-2.new.track (Returned v)) c.deref-in-Binary-2.ensures c.in_ok-first-in-Binary-2.ensures.goes) c.top.new.track top)
 
 pub top-returns-in_err-second-in-Binary-clause-goes : goal.top-returns-in_err-second-in-Binary-clause-goes
 top-returns-in_err-second-in-Binary-clause-goes g t c =
@@ -128,22 +146,6 @@ top-returns-in_default-clause-goes g t c =
     let leaf = with-leaf (term_of c.args.expr.now) 1 c.args.first (no_operation c.args.expr.now c.in_default.not-Binary) in
     subst (λ (v : ℤ). Made c.args.world.now (value (site c.args.world.now) (with_left (term_of c.args.expr.now) 1 c.args.first)) c.args.locals.now.slots.items c.args.locals.now.slots.items c.args.track.now c.args.track.now (Returned v)) (sym (to_z-of_z w64 c.args.first c.ranges.first))
     (subst (λ (e : Term). Made c.args.world.now (value (site c.args.world.now) e) c.args.locals.now.slots.items c.args.locals.now.slots.items c.args.track.now c.args.track.now (Returned c.args.first)) (sym leaf) (number_made c.args.world.now (site c.args.world.now) c.args.locals.now.slots.items c.args.first c.args.track.now c.requires.can))
-
-pub chain-returns-in_err-first-clause-goes : goal.chain-returns-in_err-first-clause-goes
-chain-returns-in_err-first-clause-goes g t c =
-    let p = err_from_is_err_and c.from_residual.result c.from_residual.ensures.1 in
-    let why = halt.Own c.in_err-first.field-0.0 in
-    rw (p.1, p.2)
-    (below_stops c.args.world.now (site c.args.world.now) c.args.locals.now.slots.items (term_of c.args.expr.now) c.left_depth-levels.result c.args.track.now c.valued.new.track why
-    (subst (λ (e : Term). Goes c.args.world.now (value (site c.args.world.now) e) c.args.locals.now.slots.items c.args.locals.now.slots.items c.args.track.now c.valued.new.track (Err why)) c.left_by.ensures c.in_err-first.ensures.goes))
-
-pub chain-returns-clause-goes : goal.chain-returns-clause-goes
-chain-returns-clause-goes g t c =
-    let v = c.in_ok-first.first in
-    below_goes c.args.world.now (site c.args.world.now) c.args.locals.now.slots.items (term_of c.args.expr.now) c.left_depth-levels.result c.args.track.now c.valued.new.track c.climb.new.track v (lane_answer c.climb.result)
-    (subst (λ (e : Term). Made c.args.world.now (value (site c.args.world.now) e) c.args.locals.now.slots.items c.args.locals.now.slots.items c.args.track.now c.valued.new.track (Returned v)) c.left_by.ensures c.in_ok-first.ensures.goes)
-    (subst (λ (z : ℤ). Goes c.args.world.now (value (site c.args.world.now) (with_left (term_of c.args.expr.now) c.left_depth-levels.result z)) c.args.locals.now.slots.items c.args.locals.now.slots.items c.valued.new.track c.climb.new.track (lane_answer c.climb.result))
-    (let fits : FitsSigned w64 v = search rules in to_z-of_z w64 v fits) c.climb.ensures.goes)
 
 pub climb-returns-then-levels-eq0-clause-goes : goal.climb-returns-then-levels-eq0-clause-goes
 climb-returns-then-levels-eq0-clause-goes g t c =
@@ -182,17 +184,25 @@ climb-returns-clause-goes g t c =
 counted : (e : Term) (n : ℕ) → n ≡ min (left_depth e) 18446744073709551615 → n ≤ left_depth e
 counted e n is = omega (arith, is)
 
-pub chain-valued-requires : goal.chain-valued-requires
-chain-valued-requires g t c κs given =
+-- and of an operation, one at least
+deep_enough : (e : Expr) (op : Op) (line : ℕ) (left right : Box Expr Global) (n : ℕ) → e ≡ variant.Binary op line left right → n ≡ min (left_depth (term_of e)) 18446744073709551615 → 1 ≤ n
+deep_enough e op line left right n is told =
+    let some : left_depth (term_of e) ≡ suc (left_depth (term_of left.value)) = ap (λ (x : Expr). left_depth (term_of x)) is in
+    omega (arith, some, told)
+
+pub compound-valued-requires-in-Binary : goal.compound-valued-requires-in-Binary
+compound-valued-requires-in-Binary g t c κs given =
     let n = c.left_depth-levels.result in
+    let deep = deep_enough c.args.expr.now _ _ _ _ n c.in-Binary.is c.left_depth-levels.ensures in
     let whole = size_whole (term_of c.args.expr.now) n (counted (term_of c.args.expr.now) n c.left_depth-levels.ensures) in
-    let less : term_size (term_of c.left_by.result.now) ≤ term_size (term_of c.args.expr.now) = subst (λ (e : Term). term_size e ≤ term_size (term_of c.args.expr.now)) (sym c.left_by.ensures) (omega (arith, whole)) in
+    let above = size_levels (term_of c.args.expr.now) n in
+    let less : term_size (term_of c.left_by.result.now) < term_size (term_of c.args.expr.now) = subst (λ (e : Term). term_size e < term_size (term_of c.args.expr.now)) (sym c.left_by.ensures) (omega (arith, whole, above, deep)) in
     let bounded : IsBoundedTerm (term_of c.left_by.result.now) = subst IsBoundedTerm (sym c.left_by.ensures) (bounded_left (term_of c.args.expr.now) n c.requires.bounded) in
     let falls = c.decreases in
     (omega (arith, falls, less), search (rules, given, bounded))
 
-pub chain-climb-requires : goal.chain-climb-requires
-chain-climb-requires g t c κs given =
+pub compound-climb-requires : goal.compound-climb-requires
+compound-climb-requires g t c κs given =
     let n = c.left_depth-levels.result in
     let whole = size_whole (term_of c.args.expr.now) n (counted (term_of c.args.expr.now) n c.left_depth-levels.ensures) in
     let falls = c.decreases in
@@ -225,9 +235,9 @@ climb-climb-requires-2 g t c κs given =
 
 pub compound-top-requires : goal.compound-top-requires
 compound-top-requires g t c κs given =
-    let is = ap (λ (e : Expr). term_of e) c.in-Binary.is in
-    let size : term_size (term_of c.args.expr.now) ≡ suc (term_size (term_of c.in-Binary.left.value) + term_size (term_of c.in-Binary.right.value)) = ap term_size is in
-    let above : size_above (term_of c.args.expr.now) 1 ≡ suc (size_above (term_of c.in-Binary.left.value) 0 + term_size (term_of c.in-Binary.right.value)) = ap (λ (e : Term). size_above e 1) is in
-    let none = size_none (term_of c.in-Binary.left.value) in
+    let is = ap (λ (e : Expr). term_of e) c.in-Binary-2.is in
+    let size : term_size (term_of c.args.expr.now) ≡ suc (term_size (term_of c.in-Binary-2.left.value) + term_size (term_of c.in-Binary-2.right.value)) = ap term_size is in
+    let above : size_above (term_of c.args.expr.now) 1 ≡ suc (size_above (term_of c.in-Binary-2.left.value) 0 + term_size (term_of c.in-Binary-2.right.value)) = ap (λ (e : Term). size_above e 1) is in
+    let none = size_none (term_of c.in-Binary-2.left.value) in
     let falls = c.decreases in
     (omega (arith, falls, size, above, none), search (rules, given))
