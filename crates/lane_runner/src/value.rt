@@ -1,5 +1,6 @@
 //! The value of an expression.
-ghost use Rattle.std.specs.Prelude.{◌≡◌, List, ℤ};
+ghost use Rattle.std.specs.Prelude.{◌≡◌, List, ℤ, ok_or};
+ghost use Rattle.kernel_syntax.specs.Arithmetic.{applied};
 ghost use Rattle.kernel_syntax.specs.Bounds.{IsBoundedTerm, IsPlace};
 ghost use Rattle.kernel_syntax.specs.Program.{term_of};
 ghost use Rattle.kernel_model.specs.Value.{element_at, loaded, value};
@@ -11,13 +12,16 @@ use crate::stop::Stop;
 use crate::track::Track;
 use crate::world::World;
 use kernel_model::negate;
-use kernel_syntax::Expr;
+use kernel_syntax::{Expr, Op, apply};
 use std::alloc::Global;
 use std::marker::Send;
 use std::sync::Wait;
 use std::thread::Threads;
 use sw_base::Log;
-use task_place::{Locals, left_by, left_depth, operate};
+use task_place::{Locals, left_by, left_depth};
+
+// How many left operands, one within the other, are followed by calls. Deeper ones are followed by halves, which is slower and needs less stack.
+const CALLS: usize = 32;
 
 // Reads an element, after its index.
 fn load<L: Log, R: Threads + Wait + Copy + Send + 'static>(
@@ -42,6 +46,14 @@ fn load<L: Log, R: Threads + Wait + Copy + Send + 'static>(
     track.read(rt, alloc, world, &element, line, place)
 }
 
+// The operation on two values, or the stop of a zero divisor. It is inlined, so that its answer doesn't go through memory.
+#[inline(always)]
+fn operate(op: Op, line: u32, left: i64, right: i64) -> Result<i64, Stop>
+    ensures { result ≡ ok_or (applied op left right) (Stop.DivZero line) }
+{
+    apply(op, left, right).ok_or(Stop::DivZero { line })
+}
+
 // The value of an operation from that of its left operand. What is no operation has this value itself.
 #[cycle(valuing)]
 #[inline(always)]
@@ -53,6 +65,7 @@ fn top<L: Log, R: Threads + Wait + Copy + Send + 'static>(
     track: &mut Track<L>,
     expr: &Expr,
     first: i64,
+    calls: usize,
 ) -> Result<i64, Stop>
     requires can { CanGo world.now track.old }
     requires bounded { IsBoundedTerm (term_of expr.now) }
@@ -67,8 +80,8 @@ fn top<L: Log, R: Threads + Wait + Copy + Send + 'static>(
             right,
             ..
         } => {
-            let second = value(rt, alloc, world, locals, track, right)?;
-            operate(*op, first, second, Stop::DivZero { line: *line })
+            let second = valued(rt, alloc, world, locals, track, right, calls)?;
+            operate(*op, *line, first, second)
         }
         _ => Ok(first),
     }
@@ -98,57 +111,12 @@ fn climb<L: Log, R: Threads + Wait + Copy + Send + 'static>(
         return Ok(first);
     }
     if levels == 1 {
-        return top(rt, alloc, world, locals, track, expr, first);
+        return top(rt, alloc, world, locals, track, expr, first, 0);
     }
     let half = levels / 2;
     let below = left_by(expr, half);
     let middle = climb(rt, alloc, world, locals, track, below, levels - half, first)?;
     climb(rt, alloc, world, locals, track, expr, half, middle)
-}
-
-// The value of an expression whose left operands may be as deep as its text is long.
-#[cycle(valuing)]
-#[inline(never)]
-fn chain<L: Log, R: Threads + Wait + Copy + Send + 'static>(
-    rt: &R,
-    alloc: Global,
-    world: &World,
-    locals: &Locals,
-    track: &mut Track<L>,
-    expr: &Expr,
-) -> Result<i64, Stop>
-    requires can { CanGo world.now track.old }
-    requires bounded { IsBoundedTerm (term_of expr.now) }
-    ensures goes { Goes world.now (value (site world.now) (term_of expr.now)) locals.now.slots.items locals.now.slots.items track.old track.new (lane_answer result) }
-    ensures log { IsSameLog track.old.buffer track.new.buffer }
-    ensures tally { track.new.tally ≡ track.old.tally }
-{
-    let levels = left_depth(expr);
-    let first = value(rt, alloc, world, locals, track, left_by(expr, levels))?;
-    climb(rt, alloc, world, locals, track, expr, levels, first)
-}
-
-// The value of a left operand.
-#[cycle(valuing)]
-#[inline(always)]
-fn operand<L: Log, R: Threads + Wait + Copy + Send + 'static>(
-    rt: &R,
-    alloc: Global,
-    world: &World,
-    locals: &Locals,
-    track: &mut Track<L>,
-    expr: &Expr,
-) -> Result<i64, Stop>
-    requires can { CanGo world.now track.old }
-    requires bounded { IsBoundedTerm (term_of expr.now) }
-    ensures goes { Goes world.now (value (site world.now) (term_of expr.now)) locals.now.slots.items locals.now.slots.items track.old track.new (lane_answer result) }
-    ensures log { IsSameLog track.old.buffer track.new.buffer }
-    ensures tally { track.new.tally ≡ track.old.tally }
-{
-    match expr {
-        Expr::Binary { .. } => chain(rt, alloc, world, locals, track, expr),
-        _ => value(rt, alloc, world, locals, track, expr),
-    }
 }
 
 // The value of an expression that loads or computes. It stands apart, so that `value` needs no room for what it keeps.
@@ -161,6 +129,7 @@ fn compound<L: Log, R: Threads + Wait + Copy + Send + 'static>(
     locals: &Locals,
     track: &mut Track<L>,
     expr: &Expr,
+    calls: usize,
 ) -> Result<i64, Stop>
     requires compound { IsCompound (term_of expr.now) }
     requires can { CanGo world.now track.old }
@@ -176,16 +145,21 @@ fn compound<L: Log, R: Threads + Wait + Copy + Send + 'static>(
             line,
             site,
         } => {
-            let at = value(rt, alloc, world, locals, track, index)?;
+            let at = valued(rt, alloc, world, locals, track, index, calls)?;
             load(rt, alloc, world, track, *array, at, *line, *site)
         }
         Expr::Neg(operand) => {
-            let negated = value(rt, alloc, world, locals, track, operand)?;
+            let negated = valued(rt, alloc, world, locals, track, operand, calls)?;
             Ok(negate(negated))
         }
+        Expr::Binary { .. } if calls == 0 => {
+            let levels = left_depth(expr);
+            let lowest = valued(rt, alloc, world, locals, track, left_by(expr, levels), 0)?;
+            climb(rt, alloc, world, locals, track, expr, levels, lowest)
+        }
         Expr::Binary { left, .. } => {
-            let first = operand(rt, alloc, world, locals, track, left)?;
-            top(rt, alloc, world, locals, track, expr, first)
+            let first = valued(rt, alloc, world, locals, track, left, calls - 1)?;
+            top(rt, alloc, world, locals, track, expr, first, calls)
         }
         Expr::Number(_) => unreachable!(),
         Expr::Slot(_) => unreachable!(),
@@ -194,8 +168,37 @@ fn compound<L: Log, R: Threads + Wait + Copy + Send + 'static>(
     }
 }
 
-/// The value of an expression. Its reads are recorded. It is inlined, so that the value of a leaf doesn't go through memory.
+// The value of an expression, where so many left operands may still be followed by calls. It is inlined, so that the value of a leaf doesn't go through
+// memory.
 #[cycle(valuing)]
+#[inline(always)]
+fn valued<L: Log, R: Threads + Wait + Copy + Send + 'static>(
+    rt: &R,
+    alloc: Global,
+    world: &World,
+    locals: &Locals,
+    track: &mut Track<L>,
+    expr: &Expr,
+    calls: usize,
+) -> Result<i64, Stop>
+    requires can { CanGo world.now track.old }
+    requires bounded { IsBoundedTerm (term_of expr.now) }
+    ensures goes { Goes world.now (value (site world.now) (term_of expr.now)) locals.now.slots.items locals.now.slots.items track.old track.new (lane_answer result) }
+    ensures log { IsSameLog track.old.buffer track.new.buffer }
+    ensures tally { track.new.tally ≡ track.old.tally }
+{
+    match expr {
+        Expr::Number(number) => Ok(*number),
+        Expr::Slot(slot) => Ok(locals.get(*slot)),
+        Expr::Tid => Ok(i64::from(world.lane())),
+        Expr::Span => Ok(i64::from(world.span())),
+        Expr::Load { .. } => compound(rt, alloc, world, locals, track, expr, calls),
+        Expr::Neg(_) => compound(rt, alloc, world, locals, track, expr, calls),
+        Expr::Binary { .. } => compound(rt, alloc, world, locals, track, expr, calls),
+    }
+}
+
+/// The value of an expression. Its reads are recorded.
 #[inline(always)]
 pub fn value<L: Log, R: Threads + Wait + Copy + Send + 'static>(
     rt: &R,
@@ -211,13 +214,5 @@ pub fn value<L: Log, R: Threads + Wait + Copy + Send + 'static>(
     ensures log { IsSameLog track.old.buffer track.new.buffer }
     ensures tally { track.new.tally ≡ track.old.tally }
 {
-    match expr {
-        Expr::Number(number) => Ok(*number),
-        Expr::Slot(slot) => Ok(locals.get(*slot)),
-        Expr::Tid => Ok(i64::from(world.lane())),
-        Expr::Span => Ok(i64::from(world.span())),
-        Expr::Load { .. } => compound(rt, alloc, world, locals, track, expr),
-        Expr::Neg(_) => compound(rt, alloc, world, locals, track, expr),
-        Expr::Binary { .. } => compound(rt, alloc, world, locals, track, expr),
-    }
+    valued(rt, alloc, world, locals, track, expr, CALLS)
 }

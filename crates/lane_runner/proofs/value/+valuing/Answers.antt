@@ -1,10 +1,12 @@
 -- Each kind of expression, from what its parts made.
-use Rattle.std.proofs.Common.{◌≡◌, ◌-◌, ◌/◌, ◌+◌, ◌<◌, ◌≤◌, min, suc, ℕ, ℤ, ap, sym, subst, ◌∙◌, Err, pos, w64, to_z, of_z, FitsSigned, rules, arith}
+use Rattle.std.proofs.Common.{◌≡◌, ◌-◌, ◌/◌, ◌+◌, ◌<◌, ◌≤◌, min, suc, ℕ, ℤ, ap, sym, subst, ◌∙◌, Err, pos, Box, Global, w64, to_z, of_z, FitsSigned, rules, arith}
 use Rattle.std.specs.Prelude.{slice_index_or, ok_or}
 use Rattle.std.proofs.lemmas.Result.{err_from_is_err_and}
 use Rattle.std.proofs.lemmas.Int.{to_z-of_z}
 use Rattle.log_format.specs.Limit.{record_limit}
+use Rattle.kernel_syntax.specs.declared.syntax.Expr as variant
 use Rattle.kernel_syntax.specs.declared.syntax.Expr.{Expr}
+use Rattle.kernel_syntax.specs.declared.syntax.Op.{Op}
 use Rattle.kernel_syntax.specs.Program.{term_of}
 use Rattle.kernel_syntax.specs.Arithmetic.{negated, applied}
 use Rattle.kernel_syntax.specs.Tree as tree
@@ -25,41 +27,41 @@ pub compound-returns-in_err-at-in-Load-clause-goes : goal.compound-returns-in_er
 compound-returns-in_err-at-in-Load-clause-goes g t c =
     let p = err_from_is_err_and c.from_residual.result c.from_residual.ensures.1 in
     rw (p.1, p.2)
-    (subst (λ (e : Expr). Goes c.args.world.now (value (site c.args.world.now) (term_of e)) c.args.locals.now.slots.items c.args.locals.now.slots.items c.args.track.now c.value.new.track (Err (halt.Own c.in_err-at-in-Load.field-0.0))) (sym c.in-Load.is)
-    (load_stops c.args.world.now (site c.args.world.now) c.args.locals.now.slots.items c.in-Load.array (term_of c.in-Load.index.value) c.in-Load.line c.in-Load.site c.args.track.now c.value.new.track (halt.Own c.in_err-at-in-Load.field-0.0)
-    (subst (λ (x : Expr). Goes c.args.world.now (value (site c.args.world.now) (term_of x)) c.args.locals.now.slots.items c.args.locals.now.slots.items c.args.track.now c.value.new.track (Err (halt.Own c.in_err-at-in-Load.field-0.0))) c.deref.ensures c.in_err-at-in-Load.ensures.goes)))
+    (subst (λ (e : Expr). Goes c.args.world.now (value (site c.args.world.now) (term_of e)) c.args.locals.now.slots.items c.args.locals.now.slots.items c.args.track.now c.valued.new.track (Err (halt.Own c.in_err-at-in-Load.field-0.0))) (sym c.in-Load.is)
+    (load_stops c.args.world.now (site c.args.world.now) c.args.locals.now.slots.items c.in-Load.array (term_of c.in-Load.index.value) c.in-Load.line c.in-Load.site c.args.track.now c.valued.new.track (halt.Own c.in_err-at-in-Load.field-0.0)
+    (subst (λ (x : Expr). Goes c.args.world.now (value (site c.args.world.now) (term_of x)) c.args.locals.now.slots.items c.args.locals.now.slots.items c.args.track.now c.valued.new.track (Err (halt.Own c.in_err-at-in-Load.field-0.0))) c.deref.ensures c.in_err-at-in-Load.ensures.goes)))
 
 pub compound-returns-in_err-negated-in-Neg-clause-goes : goal.compound-returns-in_err-negated-in-Neg-clause-goes
 compound-returns-in_err-negated-in-Neg-clause-goes g t c =
     let p = err_from_is_err_and c.from_residual-in_err-negated-in-Neg.result c.from_residual-in_err-negated-in-Neg.ensures.1 in
     rw (p.1, p.2)
-    (subst (λ (e : Expr). Goes c.args.world.now (value (site c.args.world.now) (term_of e)) c.args.locals.now.slots.items c.args.locals.now.slots.items c.args.track.now c.value-in-Neg.new.track (Err (halt.Own c.in_err-negated-in-Neg.field-0.0))) (sym c.in-Neg.is)
-    (neg_stops c.args.world.now (site c.args.world.now) c.args.locals.now.slots.items (term_of c.in-Neg.operand.value) c.args.track.now c.value-in-Neg.new.track (halt.Own c.in_err-negated-in-Neg.field-0.0)
-    (subst (λ (x : Expr). Goes c.args.world.now (value (site c.args.world.now) (term_of x)) c.args.locals.now.slots.items c.args.locals.now.slots.items c.args.track.now c.value-in-Neg.new.track (Err (halt.Own c.in_err-negated-in-Neg.field-0.0))) c.deref-in-Neg.ensures c.in_err-negated-in-Neg.ensures.goes)))
+    (subst (λ (e : Expr). Goes c.args.world.now (value (site c.args.world.now) (term_of e)) c.args.locals.now.slots.items c.args.locals.now.slots.items c.args.track.now c.valued-in-Neg.new.track (Err (halt.Own c.in_err-negated-in-Neg.field-0.0))) (sym c.in-Neg.is)
+    (neg_stops c.args.world.now (site c.args.world.now) c.args.locals.now.slots.items (term_of c.in-Neg.operand.value) c.args.track.now c.valued-in-Neg.new.track (halt.Own c.in_err-negated-in-Neg.field-0.0)
+    (subst (λ (x : Expr). Goes c.args.world.now (value (site c.args.world.now) (term_of x)) c.args.locals.now.slots.items c.args.locals.now.slots.items c.args.track.now c.valued-in-Neg.new.track (Err (halt.Own c.in_err-negated-in-Neg.field-0.0))) c.deref-in-Neg.ensures c.in_err-negated-in-Neg.ensures.goes)))
 
-pub value-returns-in-Number-clause-goes : goal.value-returns-in-Number-clause-goes
-value-returns-in-Number-clause-goes g t c =
+pub valued-returns-in-Number-clause-goes : goal.valued-returns-in-Number-clause-goes
+valued-returns-in-Number-clause-goes g t c =
     let fits : FitsSigned w64 c.in-Number.number = search rules in
     subst (λ (v : ℤ). Made c.args.world.now (value (site c.args.world.now) (term_of c.args.expr.now)) c.args.locals.now.slots.items c.args.locals.now.slots.items c.args.track.now c.args.track.now (Returned v)) (sym (to_z-of_z w64 c.in-Number.number fits))
     (subst (λ (e : Expr). Made c.args.world.now (value (site c.args.world.now) (term_of e)) c.args.locals.now.slots.items c.args.locals.now.slots.items c.args.track.now c.args.track.now (Returned c.in-Number.number)) (sym c.in-Number.is)
     (made_still c.args.world.now (value (site c.args.world.now) (tree.Number c.in-Number.number)) c.args.locals.now.slots.items c.args.track.now (Returned c.in-Number.number) c.requires.can (makes-Number (site c.args.world.now) c.args.locals.now.slots.items (record_limit - c.args.track.now.buffer.count) c.in-Number.number)))
 
-pub value-returns-in-Slot-clause-goes : goal.value-returns-in-Slot-clause-goes
-value-returns-in-Slot-clause-goes g t c =
+pub valued-returns-in-Slot-clause-goes : goal.valued-returns-in-Slot-clause-goes
+valued-returns-in-Slot-clause-goes g t c =
     let fits : FitsSigned w64 c.get.result = search rules in
     subst (λ (v : ℤ). Made c.args.world.now (value (site c.args.world.now) (term_of c.args.expr.now)) c.args.locals.now.slots.items c.args.locals.now.slots.items c.args.track.now c.args.track.now (Returned v)) (sym (to_z-of_z w64 c.get.result fits))
     (subst (λ (e : Expr). Made c.args.world.now (value (site c.args.world.now) (term_of e)) c.args.locals.now.slots.items c.args.locals.now.slots.items c.args.track.now c.args.track.now (Returned c.get.result)) (sym c.in-Slot.is)
     (subst (λ (v : ℤ). Made c.args.world.now (value (site c.args.world.now) (tree.Slot c.in-Slot.slot)) c.args.locals.now.slots.items c.args.locals.now.slots.items c.args.track.now c.args.track.now (Returned v)) (sym c.get.ensures) (made_still c.args.world.now (value (site c.args.world.now) (tree.Slot c.in-Slot.slot)) c.args.locals.now.slots.items c.args.track.now (Returned (slice_index_or c.args.locals.now.slots.items c.in-Slot.slot (pos 0))) c.requires.can (makes-Slot (site c.args.world.now) c.args.locals.now.slots.items (record_limit - c.args.track.now.buffer.count) c.in-Slot.slot))))
 
-pub value-returns-in-Tid-clause-goes : goal.value-returns-in-Tid-clause-goes
-value-returns-in-Tid-clause-goes g t c =
+pub valued-returns-in-Tid-clause-goes : goal.valued-returns-in-Tid-clause-goes
+valued-returns-in-Tid-clause-goes g t c =
     let fits : FitsSigned w64 c.from.result = search rules in
     subst (λ (v : ℤ). Made c.args.world.now (value (site c.args.world.now) (term_of c.args.expr.now)) c.args.locals.now.slots.items c.args.locals.now.slots.items c.args.track.now c.args.track.now (Returned v)) (sym (to_z-of_z w64 c.from.result fits))
     (subst (λ (e : Expr). Made c.args.world.now (value (site c.args.world.now) (term_of e)) c.args.locals.now.slots.items c.args.locals.now.slots.items c.args.track.now c.args.track.now (Returned c.from.result)) (sym c.in-Tid.is)
     (subst (λ (v : ℤ). Made c.args.world.now (value (site c.args.world.now) tree.Tid) c.args.locals.now.slots.items c.args.locals.now.slots.items c.args.track.now c.args.track.now (Returned v)) (sym (c.from.ensures ∙ ap (λ (n : ℕ). pos n) c.lane.ensures)) (made_still c.args.world.now (value (site c.args.world.now) tree.Tid) c.args.locals.now.slots.items c.args.track.now (Returned (pos c.args.world.now.lane)) c.requires.can (makes-Tid (site c.args.world.now) c.args.locals.now.slots.items (record_limit - c.args.track.now.buffer.count)))))
 
-pub value-returns-in-Span-clause-goes : goal.value-returns-in-Span-clause-goes
-value-returns-in-Span-clause-goes g t c =
+pub valued-returns-in-Span-clause-goes : goal.valued-returns-in-Span-clause-goes
+valued-returns-in-Span-clause-goes g t c =
     let fits : FitsSigned w64 c.from-in-Span.result = search rules in
     subst (λ (v : ℤ). Made c.args.world.now (value (site c.args.world.now) (term_of c.args.expr.now)) c.args.locals.now.slots.items c.args.locals.now.slots.items c.args.track.now c.args.track.now (Returned v)) (sym (to_z-of_z w64 c.from-in-Span.result fits))
     (subst (λ (e : Expr). Made c.args.world.now (value (site c.args.world.now) (term_of e)) c.args.locals.now.slots.items c.args.locals.now.slots.items c.args.track.now c.args.track.now (Returned c.from-in-Span.result)) (sym c.in-Span.is)
@@ -68,82 +70,82 @@ value-returns-in-Span-clause-goes g t c =
 pub compound-returns-in_ok-at-in-Load-clause-goes : goal.compound-returns-in_ok-at-in-Load-clause-goes
 compound-returns-in_ok-at-in-Load-clause-goes g t c =
     subst (λ (e : Expr). Goes c.args.world.now (value (site c.args.world.now) (term_of e)) c.args.locals.now.slots.items c.args.locals.now.slots.items c.args.track.now c.load.new.track (lane_answer c.load.result)) (sym c.in-Load.is)
-    (load_goes c.args.world.now (site c.args.world.now) c.args.locals.now.slots.items c.in-Load.array (term_of c.in-Load.index.value) c.in-Load.line c.in-Load.site c.args.track.now c.value.new.track c.load.new.track c.in_ok-at-in-Load.at (lane_answer c.load.result)
-    (subst (λ (x : Expr). Made c.args.world.now (value (site c.args.world.now) (term_of x)) c.args.locals.now.slots.items c.args.locals.now.slots.items c.args.track.now c.value.new.track (Returned c.in_ok-at-in-Load.at)) c.deref.ensures c.in_ok-at-in-Load.ensures.goes)
-    (subst (λ (i : ℤ). Goes c.args.world.now (loaded (element_at c.args.world.now.arrays c.in-Load.array i) c.in-Load.line c.in-Load.site) c.args.locals.now.slots.items c.args.locals.now.slots.items c.value.new.track c.load.new.track (lane_answer c.load.result))
+    (load_goes c.args.world.now (site c.args.world.now) c.args.locals.now.slots.items c.in-Load.array (term_of c.in-Load.index.value) c.in-Load.line c.in-Load.site c.args.track.now c.valued.new.track c.load.new.track c.in_ok-at-in-Load.at (lane_answer c.load.result)
+    (subst (λ (x : Expr). Made c.args.world.now (value (site c.args.world.now) (term_of x)) c.args.locals.now.slots.items c.args.locals.now.slots.items c.args.track.now c.valued.new.track (Returned c.in_ok-at-in-Load.at)) c.deref.ensures c.in_ok-at-in-Load.ensures.goes)
+    (subst (λ (i : ℤ). Goes c.args.world.now (loaded (element_at c.args.world.now.arrays c.in-Load.array i) c.in-Load.line c.in-Load.site) c.args.locals.now.slots.items c.args.locals.now.slots.items c.valued.new.track c.load.new.track (lane_answer c.load.result))
     (let fits : FitsSigned w64 c.in_ok-at-in-Load.at = search rules in to_z-of_z w64 c.in_ok-at-in-Load.at fits) (c.load.ensures.goes c.args.locals.now.slots.items)))
 
 pub compound-returns-in_ok-negated-in-Neg-clause-goes : goal.compound-returns-in_ok-negated-in-Neg-clause-goes
 compound-returns-in_ok-negated-in-Neg-clause-goes g t c =
     let fits : FitsSigned w64 c.negate.result = search rules in
     let is : c.negate.result ≡ negated c.in_ok-negated-in-Neg.negated = c.negate.ensures ∙ ap negated (to_z-of_z w64 c.in_ok-negated-in-Neg.negated (search rules)) in
-    subst (λ (v : ℤ). Made c.args.world.now (value (site c.args.world.now) (term_of c.args.expr.now)) c.args.locals.now.slots.items c.args.locals.now.slots.items c.args.track.now c.value-in-Neg.new.track (Returned v)) (sym (to_z-of_z w64 c.negate.result fits ∙ is))
-    (subst (λ (e : Expr). Made c.args.world.now (value (site c.args.world.now) (term_of e)) c.args.locals.now.slots.items c.args.locals.now.slots.items c.args.track.now c.value-in-Neg.new.track (Returned (negated c.in_ok-negated-in-Neg.negated))) (sym c.in-Neg.is)
-    (neg_goes c.args.world.now (site c.args.world.now) c.args.locals.now.slots.items (term_of c.in-Neg.operand.value) c.args.track.now c.value-in-Neg.new.track c.in_ok-negated-in-Neg.negated c.requires.can
-    (subst (λ (x : Expr). Made c.args.world.now (value (site c.args.world.now) (term_of x)) c.args.locals.now.slots.items c.args.locals.now.slots.items c.args.track.now c.value-in-Neg.new.track (Returned c.in_ok-negated-in-Neg.negated)) c.deref-in-Neg.ensures c.in_ok-negated-in-Neg.ensures.goes)))
+    subst (λ (v : ℤ). Made c.args.world.now (value (site c.args.world.now) (term_of c.args.expr.now)) c.args.locals.now.slots.items c.args.locals.now.slots.items c.args.track.now c.valued-in-Neg.new.track (Returned v)) (sym (to_z-of_z w64 c.negate.result fits ∙ is))
+    (subst (λ (e : Expr). Made c.args.world.now (value (site c.args.world.now) (term_of e)) c.args.locals.now.slots.items c.args.locals.now.slots.items c.args.track.now c.valued-in-Neg.new.track (Returned (negated c.in_ok-negated-in-Neg.negated))) (sym c.in-Neg.is)
+    (neg_goes c.args.world.now (site c.args.world.now) c.args.locals.now.slots.items (term_of c.in-Neg.operand.value) c.args.track.now c.valued-in-Neg.new.track c.in_ok-negated-in-Neg.negated c.requires.can
+    (subst (λ (x : Expr). Made c.args.world.now (value (site c.args.world.now) (term_of x)) c.args.locals.now.slots.items c.args.locals.now.slots.items c.args.track.now c.valued-in-Neg.new.track (Returned c.in_ok-negated-in-Neg.negated)) c.deref-in-Neg.ensures c.in_ok-negated-in-Neg.ensures.goes)))
 
 pub compound-load-requires-clause-can : goal.compound-load-requires-clause-can
 compound-load-requires-clause-can g t c κs given = can_follow _ _ _ _ _ _ _ c.requires.can c.in_ok-at-in-Load.ensures.goes
 
-pub compound-returns-in_err-first-in-Binary-clause-goes : goal.compound-returns-in_err-first-in-Binary-clause-goes
-compound-returns-in_err-first-in-Binary-clause-goes g t c =
-    let p = err_from_is_err_and c.from_residual-in_err-first-in-Binary.result c.from_residual-in_err-first-in-Binary.ensures.1 in
-    let why = halt.Own c.in_err-first-in-Binary.field-0.0 in
+pub compound-returns-in_err-lowest-in-Binary-clause-goes : goal.compound-returns-in_err-lowest-in-Binary-clause-goes
+compound-returns-in_err-lowest-in-Binary-clause-goes g t c =
+    let p = err_from_is_err_and c.from_residual-in_err-lowest-in-Binary.result c.from_residual-in_err-lowest-in-Binary.ensures.1 in
+    let why = halt.Own c.in_err-lowest-in-Binary.field-0.0 in
     rw (p.1, p.2)
-    (subst (λ (e : Expr). Goes c.args.world.now (value (site c.args.world.now) (term_of e)) c.args.locals.now.slots.items c.args.locals.now.slots.items c.args.track.now c.operand.new.track (Err why)) (sym c.in-Binary.is)
-    (left_stops c.args.world.now (site c.args.world.now) c.args.locals.now.slots.items c.in-Binary.op c.in-Binary.line (term_of c.in-Binary.left.value) (term_of c.in-Binary.right.value) c.args.track.now c.operand.new.track why
-    (subst (λ (x : Expr). Goes c.args.world.now (value (site c.args.world.now) (term_of x)) c.args.locals.now.slots.items c.args.locals.now.slots.items c.args.track.now c.operand.new.track (Err why)) c.deref-in-Binary.ensures c.in_err-first-in-Binary.ensures.goes)))
+    (below_stops c.args.world.now (site c.args.world.now) c.args.locals.now.slots.items (term_of c.args.expr.now) c.left_depth-levels.result c.args.track.now c.valued-in-Binary.new.track why
+    (subst (λ (e : Term). Goes c.args.world.now (value (site c.args.world.now) e) c.args.locals.now.slots.items c.args.locals.now.slots.items c.args.track.now c.valued-in-Binary.new.track (Err why)) c.left_by.ensures c.in_err-lowest-in-Binary.ensures.goes))
 
-pub compound-returns-in_ok-first-in-Binary-clause-goes : goal.compound-returns-in_ok-first-in-Binary-clause-goes
-compound-returns-in_ok-first-in-Binary-clause-goes g t c =
-    let v = c.in_ok-first-in-Binary.first in
-    let top = subst (λ (e : Expr). Goes c.args.world.now (value (site c.args.world.now) (with_left (term_of e) 1 v)) c.args.locals.now.slots.items c.args.locals.now.slots.items c.operand.new.track c.top.new.track (lane_answer c.top.result)) c.in-Binary.is
-    (subst (λ (z : ℤ). Goes c.args.world.now (value (site c.args.world.now) (with_left (term_of c.args.expr.now) 1 z)) c.args.locals.now.slots.items c.args.locals.now.slots.items c.operand.new.track c.top.new.track (lane_answer c.top.result))
+pub compound-returns-in_ok-lowest-in-Binary-clause-goes : goal.compound-returns-in_ok-lowest-in-Binary-clause-goes
+compound-returns-in_ok-lowest-in-Binary-clause-goes g t c =
+    let v = c.in_ok-lowest-in-Binary.lowest in
+    below_goes c.args.world.now (site c.args.world.now) c.args.locals.now.slots.items (term_of c.args.expr.now) c.left_depth-levels.result c.args.track.now c.valued-in-Binary.new.track c.climb.new.track v (lane_answer c.climb.result)
+    (subst (λ (e : Term). Made c.args.world.now (value (site c.args.world.now) e) c.args.locals.now.slots.items c.args.locals.now.slots.items c.args.track.now c.valued-in-Binary.new.track (Returned v)) c.left_by.ensures c.in_ok-lowest-in-Binary.ensures.goes)
+    (subst (λ (z : ℤ). Goes c.args.world.now (value (site c.args.world.now) (with_left (term_of c.args.expr.now) c.left_depth-levels.result z)) c.args.locals.now.slots.items c.args.locals.now.slots.items c.valued-in-Binary.new.track c.climb.new.track (lane_answer c.climb.result))
+    (let fits : FitsSigned w64 v = search rules in to_z-of_z w64 v fits) c.climb.ensures.goes)
+
+pub compound-returns-in_err-first-in-Binary-2-clause-goes : goal.compound-returns-in_err-first-in-Binary-2-clause-goes
+compound-returns-in_err-first-in-Binary-2-clause-goes g t c =
+    let p = err_from_is_err_and c.from_residual-in_err-first-in-Binary-2.result c.from_residual-in_err-first-in-Binary-2.ensures.1 in
+    let why = halt.Own c.in_err-first-in-Binary-2.field-0.0 in
+    rw (p.1, p.2)
+    (subst (λ (e : Expr). Goes c.args.world.now (value (site c.args.world.now) (term_of e)) c.args.locals.now.slots.items c.args.locals.now.slots.items c.args.track.now c.valued-in-Binary-2.new.track (Err why)) (sym c.in-Binary-2.is)
+    (left_stops c.args.world.now (site c.args.world.now) c.args.locals.now.slots.items c.in-Binary-2.op c.in-Binary-2.line (term_of c.in-Binary-2.left.value) (term_of c.in-Binary-2.right.value) c.args.track.now c.valued-in-Binary-2.new.track why
+    (subst (λ (x : Expr). Goes c.args.world.now (value (site c.args.world.now) (term_of x)) c.args.locals.now.slots.items c.args.locals.now.slots.items c.args.track.now c.valued-in-Binary-2.new.track (Err why)) c.deref-in-Binary-2.ensures c.in_err-first-in-Binary-2.ensures.goes)))
+
+pub compound-returns-in_ok-first-in-Binary-2-clause-goes : goal.compound-returns-in_ok-first-in-Binary-2-clause-goes
+compound-returns-in_ok-first-in-Binary-2-clause-goes g t c =
+    let v = c.in_ok-first-in-Binary-2.first in
+    let top = subst (λ (e : Expr). Goes c.args.world.now (value (site c.args.world.now) (with_left (term_of e) 1 v)) c.args.locals.now.slots.items c.args.locals.now.slots.items c.valued-in-Binary-2.new.track c.top.new.track (lane_answer c.top.result)) c.in-Binary-2.is
+    (subst (λ (z : ℤ). Goes c.args.world.now (value (site c.args.world.now) (with_left (term_of c.args.expr.now) 1 z)) c.args.locals.now.slots.items c.args.locals.now.slots.items c.valued-in-Binary-2.new.track c.top.new.track (lane_answer c.top.result))
     (let fits : FitsSigned w64 v = search rules in to_z-of_z w64 v fits) c.top.ensures.goes) in
-    subst (λ (e : Expr). Goes c.args.world.now (value (site c.args.world.now) (term_of e)) c.args.locals.now.slots.items c.args.locals.now.slots.items c.args.track.now c.top.new.track (lane_answer c.top.result)) (sym c.in-Binary.is)
-    (operand_goes c.args.world.now (site c.args.world.now) c.args.locals.now.slots.items c.in-Binary.op c.in-Binary.line (term_of c.in-Binary.left.value) (term_of c.in-Binary.right.value) v c.args.track.now c.operand.new.track c.requires.can (lane_answer c.top.result)
-    (subst (λ (x : Expr). Made c.args.world.now (value (site c.args.world.now) (term_of x)) c.args.locals.now.slots.items c.args.locals.now.slots.items c.args.track.now c.operand.new.track (Returned v)) c.deref-in-Binary.ensures c.in_ok-first-in-Binary.ensures.goes) c.top.new.track top)
+    subst (λ (e : Expr). Goes c.args.world.now (value (site c.args.world.now) (term_of e)) c.args.locals.now.slots.items c.args.locals.now.slots.items c.args.track.now c.top.new.track (lane_answer c.top.result)) (sym c.in-Binary-2.is)
+    (operand_goes c.args.world.now (site c.args.world.now) c.args.locals.now.slots.items c.in-Binary-2.op c.in-Binary-2.line (term_of c.in-Binary-2.left.value) (term_of c.in-Binary-2.right.value) v c.args.track.now c.valued-in-Binary-2.new.track c.requires.can (lane_answer c.top.result)
+    (subst (λ (x : Expr). Made c.args.world.now (value (site c.args.world.now) (term_of x)) c.args.locals.now.slots.items c.args.locals.now.slots.items c.args.track.now c.valued-in-Binary-2.new.track (Returned v)) c.deref-in-Binary-2.ensures c.in_ok-first-in-Binary-2.ensures.goes) c.top.new.track top)
 
 pub top-returns-in_err-second-in-Binary-clause-goes : goal.top-returns-in_err-second-in-Binary-clause-goes
 top-returns-in_err-second-in-Binary-clause-goes g t c =
     let p = err_from_is_err_and c.from_residual.result c.from_residual.ensures.1 in
     let why = halt.Own c.in_err-second-in-Binary.field-0.0 in
     rw (p.1, p.2)
-    (subst (λ (e : Expr). Goes c.args.world.now (value (site c.args.world.now) (with_left (term_of e) 1 c.args.first)) c.args.locals.now.slots.items c.args.locals.now.slots.items c.args.track.now c.value.new.track (Err why)) (sym c.in-Binary.is)
-    (top_stops c.args.world.now (site c.args.world.now) c.args.locals.now.slots.items c.in-Binary.op c.in-Binary.line (term_of c.in-Binary.left.value) (term_of c.in-Binary.right.value) c.args.first c.args.track.now c.value.new.track c.requires.can why
-    (subst (λ (x : Expr). Goes c.args.world.now (value (site c.args.world.now) (term_of x)) c.args.locals.now.slots.items c.args.locals.now.slots.items c.args.track.now c.value.new.track (Err why)) c.deref.ensures c.in_err-second-in-Binary.ensures.goes)))
+    (subst (λ (e : Expr). Goes c.args.world.now (value (site c.args.world.now) (with_left (term_of e) 1 c.args.first)) c.args.locals.now.slots.items c.args.locals.now.slots.items c.args.track.now c.valued.new.track (Err why)) (sym c.in-Binary.is)
+    (top_stops c.args.world.now (site c.args.world.now) c.args.locals.now.slots.items c.in-Binary.op c.in-Binary.line (term_of c.in-Binary.left.value) (term_of c.in-Binary.right.value) c.args.first c.args.track.now c.valued.new.track c.requires.can why
+    (subst (λ (x : Expr). Goes c.args.world.now (value (site c.args.world.now) (term_of x)) c.args.locals.now.slots.items c.args.locals.now.slots.items c.args.track.now c.valued.new.track (Err why)) c.deref.ensures c.in_err-second-in-Binary.ensures.goes)))
 
 pub top-returns-in_ok-second-in-Binary-clause-goes : goal.top-returns-in_ok-second-in-Binary-clause-goes
 top-returns-in_ok-second-in-Binary-clause-goes g t c =
     let x = to_z-of_z w64 c.args.first c.ranges.first in
     let y = to_z-of_z w64 c.in_ok-second-in-Binary.second (search rules) in
-    subst (λ (e : Expr). Goes c.args.world.now (value (site c.args.world.now) (with_left (term_of e) 1 c.args.first)) c.args.locals.now.slots.items c.args.locals.now.slots.items c.args.track.now c.value.new.track (lane_answer c.operate.result)) (sym c.in-Binary.is)
-    (top_goes c.args.world.now (site c.args.world.now) c.args.locals.now.slots.items c.in-Binary.op c.in-Binary.line (term_of c.in-Binary.left.value) (term_of c.in-Binary.right.value) c.args.first c.args.track.now c.value.new.track c.requires.can c.in_ok-second-in-Binary.second c.operate.result
+    subst (λ (e : Expr). Goes c.args.world.now (value (site c.args.world.now) (with_left (term_of e) 1 c.args.first)) c.args.locals.now.slots.items c.args.locals.now.slots.items c.args.track.now c.valued.new.track (lane_answer c.operate.result)) (sym c.in-Binary.is)
+    (top_goes c.args.world.now (site c.args.world.now) c.args.locals.now.slots.items c.in-Binary.op c.in-Binary.line (term_of c.in-Binary.left.value) (term_of c.in-Binary.right.value) c.args.first c.args.track.now c.valued.new.track c.requires.can c.in_ok-second-in-Binary.second c.operate.result
     (c.operate.ensures ∙ ap (λ (z : ℤ). ok_or (applied c.in-Binary.op z (to_z w64 (of_z w64 c.in_ok-second-in-Binary.second))) (DivZero c.in-Binary.line)) x
     ∙ ap (λ (z : ℤ). ok_or (applied c.in-Binary.op c.args.first z) (DivZero c.in-Binary.line)) y)
-    (subst (λ (z : Expr). Made c.args.world.now (value (site c.args.world.now) (term_of z)) c.args.locals.now.slots.items c.args.locals.now.slots.items c.args.track.now c.value.new.track (Returned c.in_ok-second-in-Binary.second)) c.deref.ensures c.in_ok-second-in-Binary.ensures.goes))
+    (subst (λ (z : Expr). Made c.args.world.now (value (site c.args.world.now) (term_of z)) c.args.locals.now.slots.items c.args.locals.now.slots.items c.args.track.now c.valued.new.track (Returned c.in_ok-second-in-Binary.second)) c.deref.ensures c.in_ok-second-in-Binary.ensures.goes))
 
 pub top-returns-in_default-clause-goes : goal.top-returns-in_default-clause-goes
 top-returns-in_default-clause-goes g t c =
     let leaf = with-leaf (term_of c.args.expr.now) 1 c.args.first (no_operation c.args.expr.now c.in_default.not-Binary) in
     subst (λ (v : ℤ). Made c.args.world.now (value (site c.args.world.now) (with_left (term_of c.args.expr.now) 1 c.args.first)) c.args.locals.now.slots.items c.args.locals.now.slots.items c.args.track.now c.args.track.now (Returned v)) (sym (to_z-of_z w64 c.args.first c.ranges.first))
     (subst (λ (e : Term). Made c.args.world.now (value (site c.args.world.now) e) c.args.locals.now.slots.items c.args.locals.now.slots.items c.args.track.now c.args.track.now (Returned c.args.first)) (sym leaf) (number_made c.args.world.now (site c.args.world.now) c.args.locals.now.slots.items c.args.first c.args.track.now c.requires.can))
-
-pub chain-returns-in_err-first-clause-goes : goal.chain-returns-in_err-first-clause-goes
-chain-returns-in_err-first-clause-goes g t c =
-    let p = err_from_is_err_and c.from_residual.result c.from_residual.ensures.1 in
-    let why = halt.Own c.in_err-first.field-0.0 in
-    rw (p.1, p.2)
-    (below_stops c.args.world.now (site c.args.world.now) c.args.locals.now.slots.items (term_of c.args.expr.now) c.left_depth-levels.result c.args.track.now c.value.new.track why
-    (subst (λ (e : Term). Goes c.args.world.now (value (site c.args.world.now) e) c.args.locals.now.slots.items c.args.locals.now.slots.items c.args.track.now c.value.new.track (Err why)) c.left_by.ensures c.in_err-first.ensures.goes))
-
-pub chain-returns-clause-goes : goal.chain-returns-clause-goes
-chain-returns-clause-goes g t c =
-    let v = c.in_ok-first.first in
-    below_goes c.args.world.now (site c.args.world.now) c.args.locals.now.slots.items (term_of c.args.expr.now) c.left_depth-levels.result c.args.track.now c.value.new.track c.climb.new.track v (lane_answer c.climb.result)
-    (subst (λ (e : Term). Made c.args.world.now (value (site c.args.world.now) e) c.args.locals.now.slots.items c.args.locals.now.slots.items c.args.track.now c.value.new.track (Returned v)) c.left_by.ensures c.in_ok-first.ensures.goes)
-    (subst (λ (z : ℤ). Goes c.args.world.now (value (site c.args.world.now) (with_left (term_of c.args.expr.now) c.left_depth-levels.result z)) c.args.locals.now.slots.items c.args.locals.now.slots.items c.value.new.track c.climb.new.track (lane_answer c.climb.result))
-    (let fits : FitsSigned w64 v = search rules in to_z-of_z w64 v fits) c.climb.ensures.goes)
 
 pub climb-returns-then-levels-eq0-clause-goes : goal.climb-returns-then-levels-eq0-clause-goes
 climb-returns-then-levels-eq0-clause-goes g t c =
@@ -182,17 +184,25 @@ climb-returns-clause-goes g t c =
 counted : (e : Term) (n : ℕ) → n ≡ min (left_depth e) 18446744073709551615 → n ≤ left_depth e
 counted e n is = omega (arith, is)
 
-pub chain-value-requires : goal.chain-value-requires
-chain-value-requires g t c κs given =
+-- and of an operation, one at least
+deep_enough : (e : Expr) (op : Op) (line : ℕ) (left right : Box Expr Global) (n : ℕ) → e ≡ variant.Binary op line left right → n ≡ min (left_depth (term_of e)) 18446744073709551615 → 1 ≤ n
+deep_enough e op line left right n is told =
+    let some : left_depth (term_of e) ≡ suc (left_depth (term_of left.value)) = ap (λ (x : Expr). left_depth (term_of x)) is in
+    omega (arith, some, told)
+
+pub compound-valued-requires-in-Binary : goal.compound-valued-requires-in-Binary
+compound-valued-requires-in-Binary g t c κs given =
     let n = c.left_depth-levels.result in
+    let deep = deep_enough c.args.expr.now _ _ _ _ n c.in-Binary.is c.left_depth-levels.ensures in
     let whole = size_whole (term_of c.args.expr.now) n (counted (term_of c.args.expr.now) n c.left_depth-levels.ensures) in
-    let less : term_size (term_of c.left_by.result.now) ≤ term_size (term_of c.args.expr.now) = subst (λ (e : Term). term_size e ≤ term_size (term_of c.args.expr.now)) (sym c.left_by.ensures) (omega (arith, whole)) in
+    let above = size_levels (term_of c.args.expr.now) n in
+    let less : term_size (term_of c.left_by.result.now) < term_size (term_of c.args.expr.now) = subst (λ (e : Term). term_size e < term_size (term_of c.args.expr.now)) (sym c.left_by.ensures) (omega (arith, whole, above, deep)) in
     let bounded : IsBoundedTerm (term_of c.left_by.result.now) = subst IsBoundedTerm (sym c.left_by.ensures) (bounded_left (term_of c.args.expr.now) n c.requires.bounded) in
     let falls = c.decreases in
     (omega (arith, falls, less), search (rules, given, bounded))
 
-pub chain-climb-requires : goal.chain-climb-requires
-chain-climb-requires g t c κs given =
+pub compound-climb-requires : goal.compound-climb-requires
+compound-climb-requires g t c κs given =
     let n = c.left_depth-levels.result in
     let whole = size_whole (term_of c.args.expr.now) n (counted (term_of c.args.expr.now) n c.left_depth-levels.ensures) in
     let falls = c.decreases in
@@ -225,9 +235,9 @@ climb-climb-requires-2 g t c κs given =
 
 pub compound-top-requires : goal.compound-top-requires
 compound-top-requires g t c κs given =
-    let is = ap (λ (e : Expr). term_of e) c.in-Binary.is in
-    let size : term_size (term_of c.args.expr.now) ≡ suc (term_size (term_of c.in-Binary.left.value) + term_size (term_of c.in-Binary.right.value)) = ap term_size is in
-    let above : size_above (term_of c.args.expr.now) 1 ≡ suc (size_above (term_of c.in-Binary.left.value) 0 + term_size (term_of c.in-Binary.right.value)) = ap (λ (e : Term). size_above e 1) is in
-    let none = size_none (term_of c.in-Binary.left.value) in
+    let is = ap (λ (e : Expr). term_of e) c.in-Binary-2.is in
+    let size : term_size (term_of c.args.expr.now) ≡ suc (term_size (term_of c.in-Binary-2.left.value) + term_size (term_of c.in-Binary-2.right.value)) = ap term_size is in
+    let above : size_above (term_of c.args.expr.now) 1 ≡ suc (size_above (term_of c.in-Binary-2.left.value) 0 + term_size (term_of c.in-Binary-2.right.value)) = ap (λ (e : Term). size_above e 1) is in
+    let none = size_none (term_of c.in-Binary-2.left.value) in
     let falls = c.decreases in
     (omega (arith, falls, size, above, none), search (rules, given))

@@ -4,14 +4,8 @@ use Rattle.task_place.specs.Operands.{term_size, size_above}
 use Rattle.lane_runner.proofs.value.+valuing.Given as goal
 
 -- what is left to evaluate, and by which function
-abbrev pub decreases-operand : goal.decreases-operand
-decreases-operand g l = 4 * term_size (term_of l.expr.now) + 5
-
-abbrev pub decreases-chain : goal.decreases-chain
-decreases-chain g l = 4 * term_size (term_of l.expr.now) + 4
-
-abbrev pub decreases-value : goal.decreases-value
-decreases-value g l = 4 * term_size (term_of l.expr.now) + 3
+abbrev pub decreases-valued : goal.decreases-valued
+decreases-valued g l = 4 * term_size (term_of l.expr.now) + 3
 
 abbrev pub decreases-compound : goal.decreases-compound
 decreases-compound g l = 4 * term_size (term_of l.expr.now) + 2
