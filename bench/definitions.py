@@ -3,8 +3,8 @@
 
 usage: definitions.py [CLAUSE ..]     a table of all clauses; of each clause that is named, also the files and what they hold of it
 
-A definition is a block of a file up to the next empty line, with its comment. It reaches those that it names. Left out are the toolchain's own, and the
-Rust types that a definition reads: these are only counted.
+A definition is a block of a file up to the next empty line, with its comment. It reaches those that it names, but for the names that it gives its own
+fields and variables. Left out are the toolchain's own, and the Rust types that a definition reads: these are only counted.
 """
 import collections
 import glob
@@ -14,7 +14,12 @@ import sys
 
 TOP = os.path.dirname(os.path.dirname(os.path.abspath(__file__)))
 CALL = os.path.join(TOP, "crates", "top_call", "src", "top.rt")
-WORD = re.compile(r"[A-Za-z_][A-Za-z0-9_']*")
+WORD = re.compile(r"(?<![\w'.])[A-Za-z_][A-Za-z0-9_']*")
+FIELD = re.compile(r"^ +(?:pub )?([a-z_][\w']*) : ")
+LABEL = re.compile(r"(^ +|\{ |; )[a-z_][\w']* = ")
+BOUND = re.compile(r"[({]([A-Za-z_][\w' ]*) : ")
+LAMBDA = re.compile(r"λ ([a-z_][\w' ]*)\.")
+EQUATION = re.compile(r"^[a-z_][\w']* (.*?) = ", re.M)
 USE = re.compile(r"^(?:ghost )?use Rattle\.(\w+)\.specs\.([\w.]+?)\.\{(.*)\};?\s*$", re.M)
 RENAMED = re.compile(r"^use Rattle\.(\w+)\.specs\.([\w.]+) as (\w+)", re.M)
 DEFINED = re.compile(r"^(?:(?:abbrev|unfoldable|mutual|pub|record|data)\s+)+([A-Za-z_][\w']*)", re.M)
@@ -75,9 +80,28 @@ def all_files():
     return found
 
 
+def variables(text):
+    """The variables of a definition: of its types, of its functions, and in front of an equation's sign."""
+    found = set()
+    for names in [*BOUND.findall(text), *LAMBDA.findall(text)]:
+        found |= set(WORD.findall(names))
+    for patterns in EQUATION.findall(text):
+        found |= {word for word in WORD.findall(patterns) if word[0].islower()}
+    return found
+
+
+def words_of(text):
+    """The words of a definition that aren't its own: no variables, no labels, and no fields once they are declared."""
+    words, fields = set(), set()
+    for line in text.split("\n"):
+        words |= set(WORD.findall(LABEL.sub(r"\1", FIELD.sub("", line)))) - fields
+        fields |= set(FIELD.findall(line))
+    return words - variables(text)
+
+
 def named_by(file, place, text):
     """The definitions, as (crate, module, name), that a text in that file names."""
-    for word in set(WORD.findall(text)):
+    for word in words_of(text):
         if word in file.brought:
             yield file.brought[word]
         elif word in file.by_name:

@@ -13,6 +13,7 @@ use Rattle.kernel_syntax.specs.Program.{Program}
 use Rattle.kernel_model.specs.Folder.{paths_of}
 use Rattle.history_model.specs.Sound.{WordLayout}
 use Rattle.certainty_model.specs.Certain.{IsCertain, IsFixed, IsRun}
+use Rattle.serial_model.specs.Order.{HasSerialHistory}
 use Rattle.serial_model.proofs.SerialRuns.{serial_run, serial_listing, serial_end}
 use Rattle.serial_laws.specs.SerialRuns.{IsSerialRun, LogsSerialRun}
 
@@ -23,8 +24,11 @@ module _ (program : Program) (layout : WordLayout) (tasks : Trace) (words : List
   pub is_listed : IsListing (paths_of tasks)
   is_listed = subst (λ (t : Trace). IsListing (paths_of t)) (sym s.tasks_are) (serial_listing program layout 4 s.root words words s.runs)
 
+  pub is_in_order : HasSerialHistory (logs_of tasks) layout.address words
+  is_in_order = subst (λ (t : Trace). HasSerialHistory (logs_of t) layout.address words) (sym s.tasks_are) (serial_end program layout 4 s.root words words s.runs)
+
   pub is_ended : HasLegalHistory (logs_of tasks) layout.address words
-  is_ended = subst (λ (t : Trace). HasLegalHistory (logs_of t) layout.address words) (sym s.tasks_are) (serial_end program layout 4 s.root words words s.runs)
+  is_ended = is_in_order.legal
 
 pub is_certain : (program : Program) (layout : WordLayout) (tasks : Trace) (words : List ℕ) → IsFixed program.main.body → IsSerialRun program layout tasks words
     → ((pair : ℕ × ℕ) → IsRacePair (logs_of tasks) pair → ⊥) → IsCertain program tasks

@@ -1,12 +1,15 @@
 pub mod Certainty
 mod Counted
 mod Found
+pub mod Growing
+mod Lined
 mod Logged
 mod Puts
 pub mod Root
 mod Shapes
 mod Stopped
 mod StoppedRoot
+mod StoppedTasks
 mod Traced
 mod Undrawn
 mod WholeTasks

@@ -15,7 +15,6 @@ use Rattle.kernel_syntax.specs.Program.{Program}
 use Rattle.kernel_model.specs.Folder.{root_start}
 use Rattle.kernel_model.specs.Lawful.{IsLawful}
 use Rattle.kernel_model.specs.Value.{Site}
-use Rattle.kernel_rules.proofs.LawfulFolder.{root_values}
 use Rattle.history_model.specs.Did.{did}
 use Rattle.history_model.specs.Joined.{LastIsEnd}
 use Rattle.history_model.specs.Sound.{HasAddresses}
@@ -98,10 +97,10 @@ module _ (layout : ElementLayout) (program : Program) (lawful : IsLawful program
       none_below = r.begins.none_below;
     }
 
-    runs : Runs layout by_log program lawful.bounded (root_start program) (r.work ∷ [])
+    runs : Runs layout by_log program (root_start program) (r.work ∷ [])
     runs =
-        root_runs layout by_log program lawful.bounded (root_start program) first r.work r.after r.runs (ap (λ (s : Site). s.arrays) r.begins.at)
-        (lane_at_start program program.main (replicate program.slots (pos 0)) 0 first begins) (root_values program lawful) r.ended
+        root_runs layout by_log program (root_start program) first r.work r.after r.runs (ap (λ (s : Site). s.arrays) r.begins.at)
+        (lane_at_start program program.main (replicate program.slots (pos 0)) 0 first begins) (record { body = lawful.bounded.body; end = lawful.bounded.end_line }) r.ended
 
     shape : IsShaped layout 4 r.after r.work
     shape = lane_shaped layout 4 [] first r.work r.after r.runs (omega arith)

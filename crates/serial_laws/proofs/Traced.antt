@@ -7,16 +7,14 @@ use Rattle.std.proofs.lemmas.List.Elements.{All-nil, All-cons, All-head, All-tai
 use Rattle.sw_base.specs.declared.path.Step.{Step}
 use Rattle.log_format.specs.declared.record.Record.{Record}
 use Rattle.log_format.specs.declared.record.Kind.TheVariants as kind
-use Rattle.kernel_syntax.specs.Bounds.{IsBounded}
 use Rattle.kernel_syntax.specs.Program.{Program}
 use Rattle.kernel_syntax.specs.Tree.{TeamTree}
 use Rattle.kernel_syntax.specs.declared.syntax.Array.{Array}
 use Rattle.kernel_model.specs.Folder.{own_trace, IsTraced}
 use Rattle.kernel_model.specs.State as model
-use Rattle.kernel_model.specs.State.{State, after, put, event}
+use Rattle.kernel_model.specs.State.{after, put, event}
 use Rattle.kernel_model.specs.Trace.{Start, run}
 use Rattle.kernel_model.specs.Value.{Site}
-use Rattle.kernel_rules.proofs.LawfulValues.{IsValueFork, IsValueStart, lane_values, traced_values}
 use Rattle.history_model.specs.Work.{Work, Rest, Phases, RegionWork, work_records, work_regions, work_at, lane_works}
 use Rattle.execution_model.specs.Runs.{RunsTask, RunsRegions, works_log, lane_begin}
 use Rattle.serial_run.proofs.Coming.{have_their_trace}
@@ -27,16 +25,17 @@ use Rattle.serial_team.proofs.Going.{team_at}
 use Rattle.serial_team.specs.declared.member.Stage.TheVariants as stage
 use Rattle.serial_team.specs.Members.{Pool, pool_at, MemberValue, later, idle, path_in, BeginsLane, BeginTeam}
 use Rattle.serial_team.specs.Running.{put_all, beside, past_region, HaveArrays, LaneRuns, TeamRuns, PhasesRun}
+use Rattle.serial_laws.proofs.Lined.{HasLine, IsLined, IsLinedFork, trace_lined}
 use Rattle.serial_laws.proofs.Puts.{plain_finds, put_records_are, put_regions}
 use Rattle.serial_laws.proofs.Undrawn.{IsUndrawn, undrawn_both, plain_undrawn, undrawn_region}
 use Rattle.serial_laws.proofs.WholeTasks.{ArePut, RegionsPut, put_lines, task_put, region_put, regions_put_both}
 
 module _ {X : Type 0} (P : X → Type 0) where
-  all_left : (xs ys : List X) → All P (xs ++ ys) → All P xs
+  pub all_left : (xs ys : List X) → All P (xs ++ ys) → All P xs
   all_left [] ys all = All-nil P
   all_left (x ∷ xs) ys all = All-cons P x xs (All-head P x (xs ++ ys) all) (all_left xs ys (All-tail P x (xs ++ ys) all))
 
-  all_right : (xs ys : List X) → All P (xs ++ ys) → All P ys
+  pub all_right : (xs ys : List X) → All P (xs ++ ys) → All P ys
   all_right [] ys all = all
   all_right (x ∷ xs) ys all = all_right xs ys (All-tail P x (xs ++ ys) all)
 
@@ -55,7 +54,7 @@ module _ (layout : ElementLayout) where
       let rest = phases_ended at number ys q phases zs r more in
       (rest.0 ∙ team_length at number xs p works ys q t, rest.1)
 
-abbrev fork_at : TeamTree → List ℤ → model.Fork
+abbrev pub fork_at : TeamTree → List ℤ → model.Fork
 fork_at team slots = record { team = team; slots = slots }
 
 -- a lane that begins is a task at its start
@@ -67,7 +66,7 @@ lane_at_start program team slots n x b = record {
   whole = λ s. b.whole s ∙ ap (λ (at : Site). after (run at team.body s) (put (event kind.End team.end 0 0))) b.at;
 }
 
-module _ (layout : ElementLayout) (by_log : layout.bound ≡ OfLog) (program : Program) (bounded : IsBounded program) where
+module _ (layout : ElementLayout) (by_log : layout.bound ≡ OfLog) (program : Program) where
   -- ---- tasks
 
   -- the works are those of a task of the kernel, and no record of theirs is left out of its log
@@ -77,16 +76,16 @@ module _ (layout : ElementLayout) (by_log : layout.bound ≡ OfLog) (program : P
     pub log : works_log works ≡ flat_map work_records works
     pub undrawn : IsUndrawn (works_log works)
 
-  record RunAll (forks : List model.Fork) (regions : List RegionWork) : Type 0 where
-    run : RunsRegions program forks regions
-    whole : RegionsPut regions
+  pub record RunAll (forks : List model.Fork) (regions : List RegionWork) : Type 0 where
+    pub run : RunsRegions program forks regions
+    pub whole : RegionsPut regions
 
-  regions_both : (one : List model.Fork) (gs : List RegionWork) (more : List model.Fork) (hs : List RegionWork) → RunsRegions program one gs → RunsRegions program more hs → RunsRegions program (one ++ more) (gs ++ hs)
+  pub regions_both : (one : List model.Fork) (gs : List RegionWork) (more : List model.Fork) (hs : List RegionWork) → RunsRegions program one gs → RunsRegions program more hs → RunsRegions program (one ++ more) (gs ++ hs)
   regions_both _ _ more hs RunsRegions.no_region rest = rest
   regions_both _ _ more hs (RunsRegions.region fork forks work works span lanes drew first) rest =
       RunsRegions.region fork (forks ++ more) work (works ++ hs) span lanes drew (regions_both forks works more hs first rest)
 
-  region_runs : (fork : model.Fork) (forks : List model.Fork) (region : RegionWork) (regions : List RegionWork) → region.span ≡ fork.team.span
+  pub region_runs : (fork : model.Fork) (forks : List model.Fork) (region : RegionWork) (regions : List RegionWork) → region.span ≡ fork.team.span
       → ((n : ℕ) → n < region.span → Runs (lane_begin fork n) (lane_works n region.phases)) → RunAll forks regions → RunAll (fork ∷ forks) (region ∷ regions)
   region_runs fork forks region regions span lanes rest = record {
     run =
@@ -98,30 +97,30 @@ module _ (layout : ElementLayout) (by_log : layout.bound ≡ OfLog) (program : P
   -- ---- where a task stands
 
   -- a task that starts there has these records as its trace, and forks these regions
-  abbrev Finished : Stand → List Record → List model.Fork → Type 0
+  abbrev pub Finished : Stand → List Record → List model.Fork → Type 0
   Finished first records forks = (start : Start) → IsAtStart program start first → IsTraced program start records × ((own_trace program start records).forks ≡ forks)
 
   -- from there it came here, and waits or ended
-  record StandsSo (first : Stand) (z : MemberValue) (records : List Record) (forks : List model.Fork) : Type 0 where
-    at_barrier : z.stage ≡ stage.Waits → Comes layout first z.stand records forks
-    at_end : z.stage ≡ stage.Ended → Finished first records forks
+  pub record StandsSo (first : Stand) (z : MemberValue) (records : List Record) (forks : List model.Fork) : Type 0 where
+    pub at_barrier : z.stage ≡ stage.Waits → Comes layout first z.stand records forks
+    pub at_end : z.stage ≡ stage.Ended → Finished first records forks
 
-  -- it goes on from here to there: it makes these records, and its regions run, if it forks them from values
-  record Goes (x z : MemberValue) (records : List Record) (regions : List RegionWork) : Type 0 where
-    forks : List model.Fork
-    runs : All IsValueFork forks → RunAll forks regions
-    stands : (first : Stand) (before : List Record) (above : List model.Fork) → Comes layout first x.stand before above → StandsSo first z (before ++ records) (above ++ forks)
-    undrawn : IsUndrawn records
+  -- it goes on from here to there: it makes these records, and its regions run, if their statements have lines
+  pub record Goes (x z : MemberValue) (records : List Record) (regions : List RegionWork) : Type 0 where
+    pub forks : List model.Fork
+    pub runs : All IsLinedFork forks → RunAll forks regions
+    pub stands : (first : Stand) (before : List Record) (above : List model.Fork) → Comes layout first x.stand before above → StandsSo first z (before ++ records) (above ++ forks)
+    pub undrawn : IsUndrawn records
 
-  goes_as : (x z : MemberValue) (rs qs : List Record) (gs hs : List RegionWork) → rs ≡ qs → gs ≡ hs → Goes x z rs gs → Goes x z qs hs
+  pub goes_as : (x z : MemberValue) (rs qs : List Record) (gs hs : List RegionWork) → rs ≡ qs → gs ≡ hs → Goes x z rs gs → Goes x z qs hs
   goes_as x z rs qs gs hs same alike g = subst (λ (l : List RegionWork). Goes x z qs l) alike (subst (λ (l : List Record). Goes x z l gs) same g)
 
   goes_then : (x y z : MemberValue) (rs qs : List Record) (gs hs : List RegionWork) → Goes x y rs gs → y.stage ≡ stage.Waits → Goes y z qs hs → Goes x z (rs ++ qs) (gs ++ hs)
   goes_then x y z rs qs gs hs one waits more = record {
     forks = one.forks ++ more.forks;
     runs = λ values.
-        let first = one.runs (all_left IsValueFork one.forks more.forks values) in
-        let rest = more.runs (all_right IsValueFork one.forks more.forks values) in
+        let first = one.runs (all_left IsLinedFork one.forks more.forks values) in
+        let rest = more.runs (all_right IsLinedFork one.forks more.forks values) in
         record { run = regions_both one.forks gs more.forks hs first.run rest.run; whole = regions_put_both gs hs first.whole rest.whole };
     stands = λ first before above come.
         subst (λ (l : List model.Fork). StandsSo first z (before ++ (rs ++ qs)) l) (append_assoc above one.forks more.forks)
@@ -142,14 +141,14 @@ module _ (layout : ElementLayout) (by_log : layout.bound ≡ OfLog) (program : P
   }
 
   -- a task that goes to its end is one of the kernel
-  task_runs : (start : Start) (x z : MemberValue) (works : List Work) → Goes x z (flat_map work_records works) (flat_map work_regions works) → IsAtStart program start x.stand → IsValueStart start
+  pub task_runs : (start : Start) (x z : MemberValue) (works : List Work) → Goes x z (flat_map work_records works) (flat_map work_regions works) → IsAtStart program start x.stand → IsLined start.team
       → z.stage ≡ stage.Ended → Runs start works
   task_runs start x z works g begun begins ended =
       let records = flat_map work_records works in
       let traced = (g.stands x.stand [] [] Comes.begins).at_end ended start begun in
-      let values = traced_values program bounded start begins records traced.0 in
-      let put = put_lines records values.tabled in
-      let all = g.runs (subst (All IsValueFork) traced.1 values.begin) in
+      let lined = trace_lined program start begins records in
+      let put = put_lines records (subst (All HasLine) traced.0.records_are lined.0) in
+      let all = g.runs (subst (All IsLinedFork) traced.1 lined.1) in
       record {
         task =
             RunsTask.runs start works g.forks []
@@ -162,7 +161,7 @@ module _ (layout : ElementLayout) (by_log : layout.bound ≡ OfLog) (program : P
 
   -- ---- a region
 
-  module _ (path : List Step) (x z : MemberValue) (y : Stand) (team : TeamTree) (ys : List MemberValue) (p : Pool) (phases : Phases) (more : Work)
+  module _ (path : List Step) (x : MemberValue) (y : Stand) (team : TeamTree) (ys : List MemberValue) (p : Pool) (phases : Phases) (more : Work)
       (a : Advances layout x.stand y (event kind.Region team.line 0 team.span ∷ []) (fork_at team y.slots ∷ [])) where
     abbrev mark : Record
     mark = event kind.Region team.line 0 team.span
@@ -176,23 +175,27 @@ module _ (layout : ElementLayout) (by_log : layout.bound ≡ OfLog) (program : P
     abbrev rest : Work
     rest = Work.Fork team.line team.span phases more
 
-    abbrev whole : Work
+    abbrev pub whole : Work
     whole = put_all layout x.stand.progress.words a.makes.plain rest
 
-    records_are : (before : List Record) → (before ++ a.makes.added) ++ work_records more ≡ before ++ (a.makes.plain ++ mark ∷ work_records more)
+    pub whole_records : a.makes.plain ++ mark ∷ work_records more ≡ work_records whole
+    whole_records = sym (put_records_are layout a.makes.plain x.stand.progress.words y.progress.words rest (plain_finds layout x.stand.progress y.progress mark a.makes (λ words. refl)))
+
+    pub whole_regions : region ∷ work_regions more ≡ work_regions whole
+    whole_regions = sym (put_regions layout a.makes.plain x.stand.progress.words rest)
+
+    pub records_are : (before : List Record) → (before ++ a.makes.added) ++ work_records more ≡ before ++ (a.makes.plain ++ mark ∷ work_records more)
     records_are before =
         append_assoc before a.makes.added (work_records more)
         ∙ ap (λ (l : List Record). before ++ l) (ap (λ (l : List Record). l ++ work_records more) a.makes.added_is ∙ append_assoc a.makes.plain (mark ∷ []) (work_records more))
 
-    fork_goes : (IsValueFork fork → (n : ℕ) → n < team.span → Runs (lane_begin fork n) (lane_works n phases)) → Goes (past_region path x y ys p) z (work_records more) (work_regions more)
+    fork_goes : (z : MemberValue) → (IsLinedFork fork → (n : ℕ) → n < team.span → Runs (lane_begin fork n) (lane_works n phases)) → Goes (past_region path x y ys p) z (work_records more) (work_regions more)
         → Goes x z (work_records whole) (work_regions whole)
-    fork_goes lanes g =
-        goes_as x z (a.makes.plain ++ mark ∷ work_records more) (work_records whole) (region ∷ work_regions more) (work_regions whole)
-        (sym (put_records_are layout a.makes.plain x.stand.progress.words y.progress.words rest (plain_finds layout x.stand.progress y.progress mark a.makes (λ words. refl))))
-        (sym (put_regions layout a.makes.plain x.stand.progress.words rest))
+    fork_goes z lanes g =
+        goes_as x z (a.makes.plain ++ mark ∷ work_records more) (work_records whole) (region ∷ work_regions more) (work_regions whole) whole_records whole_regions
         (record {
           forks = fork ∷ g.forks;
-          runs = λ values. region_runs fork g.forks region (work_regions more) refl (lanes (All-head IsValueFork fork g.forks values)) (g.runs (All-tail IsValueFork fork g.forks values));
+          runs = λ values. region_runs fork g.forks region (work_regions more) refl (lanes (All-head IsLinedFork fork g.forks values)) (g.runs (All-tail IsLinedFork fork g.forks values));
           stands = λ first before above come.
               subst (λ (l : List model.Fork). StandsSo first z (before ++ (a.makes.plain ++ mark ∷ work_records more)) l) (append_assoc above (fork ∷ []) g.forks)
               (subst (λ (l : List Record). StandsSo first z l ((above ++ fork ∷ []) ++ g.forks)) (records_are before)
@@ -203,8 +206,23 @@ module _ (layout : ElementLayout) (by_log : layout.bound ≡ OfLog) (program : P
 
   -- ---- all tasks
 
+  pub begun_arrays : (x : MemberValue) (team : TeamTree) (slots : List ℤ) (xs : List MemberValue) → BeginTeam program.arrays team slots xs → HaveArrays program.arrays xs
+  begun_arrays x team slots xs begun =
+      All-from_get_or (λ (v : MemberValue). v.stand.at.arrays ≡ program.arrays) xs x (λ n within. ap (λ (s : Site). s.arrays) (begun.each n x (omega (arith, within, begun.count))).at)
+
+  -- the lanes of a region that went to their ends
+  pub region_lanes : (x : MemberValue) (team : TeamTree) (slots : List ℤ) (xs ys : List MemberValue) (phases : Phases) → BeginTeam program.arrays team slots xs
+      → (length ys ≡ length xs) × All (λ (y : MemberValue). y.stage ≡ stage.Ended) ys
+      → ((n : ℕ) → n < length xs → Goes (get_or xs n x) (get_or ys n x) (flat_map work_records (lane_works n phases)) (flat_map work_regions (lane_works n phases)))
+      → IsLined team → (n : ℕ) → n < team.span → Runs (lane_begin (fork_at team slots) n) (lane_works n phases)
+  region_lanes x team slots xs ys phases begun ended go lined n within =
+      let inside : n < length xs = omega (arith, within, begun.count) in
+      task_runs (lane_begin (fork_at team slots) n) (get_or xs n x) (get_or ys n x) (lane_works n phases) (go n inside)
+      (lane_at_start program team slots n (get_or xs n x) (begun.each n x within)) lined
+      (All-get_or (λ (v : MemberValue). v.stage ≡ stage.Ended) ys n x (omega (arith, inside, ended.0)) ended.1)
+
   mutual
-    lane_goes : (path : List Step) (x : MemberValue) (work : Work) (z : MemberValue) → LaneRuns layout path x work z → x.stand.at.arrays ≡ program.arrays → Goes x z (work_records work) (work_regions work)
+    pub lane_goes : (path : List Step) (x : MemberValue) (work : Work) (z : MemberValue) → LaneRuns layout path x work z → x.stand.at.arrays ≡ program.arrays → Goes x z (work_records work) (work_regions work)
     lane_goes _ _ _ _ (LaneRuns.waits path x y line a) arrays =
         let mark = event kind.Barrier line 0 0 in
         let work = put_all layout x.stand.progress.words a.makes.added Rest in
@@ -233,21 +251,12 @@ module _ (layout : ElementLayout) (by_log : layout.bound ≡ OfLog) (program : P
     lane_goes _ _ _ _ (LaneRuns.forks path x z y team xs ys p phases more a less begin runs few next) arrays =
         let here : y.at.arrays ≡ program.arrays = ap (λ (s : Site). s.arrays) a.at ∙ arrays in
         let begun = subst (λ (l : List Array). BeginTeam l team y.slots xs) here begin in
-        let have =
-        All-from_get_or (λ (v : MemberValue). v.stand.at.arrays ≡ program.arrays) xs x
-        (λ n within. ap (λ (s : Site). s.arrays) (begun.each n x (omega (arith, within, begun.count))).at) in
-        let ended = phases_ended layout path x.forked xs (pool_at y) phases ys p runs in
-        fork_goes path x z y team ys p phases more a
-        (λ value n within.
-        let inside : n < length xs = omega (arith, within, begun.count) in
-        task_runs (lane_begin (fork_at team y.slots) n) (get_or xs n x) (get_or ys n x) (lane_works n phases)
-        (phases_go path x.forked xs (pool_at y) phases ys p runs have x n inside)
-        (lane_at_start program team y.slots n (get_or xs n x) (begun.each n x within))
-        (lane_values (fork_at team y.slots) n value within)
-        (All-get_or (λ (v : MemberValue). v.stage ≡ stage.Ended) ys n x (omega (arith, inside, ended.0)) ended.1))
+        fork_goes path x y team ys p phases more a z
+        (region_lanes x team y.slots xs ys phases begun (phases_ended layout path x.forked xs (pool_at y) phases ys p runs)
+        (phases_go path x.forked xs (pool_at y) phases ys p runs (begun_arrays x team y.slots xs begun) x))
         (lane_goes path (past_region path x y ys p) more z next here)
 
-    team_goes : (at : List Step) (number : ℕ) (xs : List MemberValue) (p : Pool) (works : List Work) (ys : List MemberValue) (q : Pool) → TeamRuns layout at number xs p works ys q
+    pub team_goes : (at : List Step) (number : ℕ) (xs : List MemberValue) (p : Pool) (works : List Work) (ys : List MemberValue) (q : Pool) → TeamRuns layout at number xs p works ys q
         → HaveArrays program.arrays xs → (d : MemberValue) (n : ℕ) → n < length xs
         → Goes (get_or xs n d) (get_or ys n d) (flat_map work_records (work_at n (beside works))) (flat_map work_regions (work_at n (beside works)))
     team_goes _ _ _ _ _ _ _ (TeamRuns.no_lane at number p) have d n less = absurd (omega (arith, less))
@@ -258,7 +267,7 @@ module _ (layout : ElementLayout) (by_log : layout.bound ≡ OfLog) (program : P
     team_goes _ _ _ _ _ _ _ (TeamRuns.lane at number x y xs ys p q work works l t) have d (suc n) less =
         team_goes at number xs (pool_at y.stand) works ys q t (All-tail (λ (v : MemberValue). v.stand.at.arrays ≡ program.arrays) x xs have) d n (omega (arith, less))
 
-    phases_go : (at : List Step) (number : ℕ) (xs : List MemberValue) (p : Pool) (phases : Phases) (ys : List MemberValue) (q : Pool) → PhasesRun layout at number xs p phases ys q
+    pub phases_go : (at : List Step) (number : ℕ) (xs : List MemberValue) (p : Pool) (phases : Phases) (ys : List MemberValue) (q : Pool) → PhasesRun layout at number xs p phases ys q
         → HaveArrays program.arrays xs → (d : MemberValue) (n : ℕ) → n < length xs → Goes (get_or xs n d) (get_or ys n d) (flat_map work_records (lane_works n phases)) (flat_map work_regions (lane_works n phases))
     phases_go _ _ _ _ _ _ _ (PhasesRun.last at number xs ys p q works t all) have d n less =
         let ws = work_at n (beside works) in
@@ -276,7 +285,7 @@ module _ (layout : ElementLayout) (by_log : layout.bound ≡ OfLog) (program : P
         (phases_go at number ys q phases zs r more (team_at layout program.arrays at number xs p works ys q t have) d n inside))
 
   -- the root, which goes to its end, is that of the kernel
-  pub root_runs : (start : Start) (x : MemberValue) (work : Work) (z : MemberValue) → LaneRuns layout [] x work z → x.stand.at.arrays ≡ program.arrays → IsAtStart program start x.stand → IsValueStart start
+  pub root_runs : (start : Start) (x : MemberValue) (work : Work) (z : MemberValue) → LaneRuns layout [] x work z → x.stand.at.arrays ≡ program.arrays → IsAtStart program start x.stand → IsLined start.team
       → z.stage ≡ stage.Ended → Runs start (work ∷ [])
   root_runs start x work z runs arrays begun begins ended =
       task_runs start x z (work ∷ [])

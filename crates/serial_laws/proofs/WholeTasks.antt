@@ -6,23 +6,21 @@ use Rattle.std.proofs.lemmas.Bool.Decides.{nat_tests}
 use Rattle.std.proofs.lemmas.List.{map-append}
 use Rattle.std.proofs.lemmas.List.Elements.{All-head, All-tail}
 use Rattle.sw_base.specs.declared.path.Step.{Step}
-use Rattle.log_format.specs.declared.format.TheConstants.{FORMAT}
 use Rattle.log_format.specs.declared.record.Record.{Record}
-use Rattle.log_format.specs.declared.record.Why.TheVariants as why
-use Rattle.log_format.specs.Table.{IsTabled}
 use Rattle.race_model.specs.Listing.{lane_of}
 use Rattle.race_model.specs.Trace.{TaskLog, Trace}
 use Rattle.history_model.specs.Tasks.{lane_tasks, region_tasks, tasks_from}
 use Rattle.history_model.specs.Work.{Work, Phases, RegionWork, work_records, work_regions, lane_works}
 use Rattle.history_laws.proofs.TaskTree.{regions_later}
 use Rattle.execution_model.specs.Runs.{put_records, as_logged}
+use Rattle.serial_laws.proofs.Lined.{HasLine}
 
-pub put_lines : (rs : List Record) → All (IsTabled FORMAT) rs → put_records rs ≡ rs
+pub put_lines : (rs : List Record) → All HasLine rs → put_records rs ≡ rs
 put_lines [] all = refl
 put_lines (r ∷ rs) all =
-    let line : 1 ≤ r.line = (All-head (IsTabled FORMAT) r rs all).passes why.LineZero in
+    let line : 1 ≤ r.line = All-head HasLine r rs all in
     let some : (r.line == 0) ≡ false = grind (arith, nat_tests) in
-    ap (λ (b : Bool). cond (not b) (r ∷ put_records rs) (put_records rs)) some ∙ ap (λ (l : List Record). r ∷ l) (put_lines rs (All-tail (IsTabled FORMAT) r rs all))
+    ap (λ (b : Bool). cond (not b) (r ∷ put_records rs) (put_records rs)) some ∙ ap (λ (l : List Record). r ∷ l) (put_lines rs (All-tail HasLine r rs all))
 
 -- the logs of the task with these works, and of all under it, have all records
 abbrev pub ArePut : List Work → Type 0

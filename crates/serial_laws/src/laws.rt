@@ -1,7 +1,6 @@
 //! What a serial run is to its kernel.
 ghost use Rattle.std.specs.Prelude.{◌≡◌, ℕ, List};
 ghost use Rattle.log_format.specs.declared.format.TheConstants.{FORMAT};
-ghost use Rattle.race_model.specs.History.{HasLegalHistory};
 ghost use Rattle.race_model.specs.KeepsRules.{KeepsRules};
 ghost use Rattle.race_model.specs.Listing.{IsListing};
 ghost use Rattle.race_model.specs.Race.{IsRacePair};
@@ -10,11 +9,14 @@ ghost use Rattle.kernel_syntax.specs.Program.{Program};
 ghost use Rattle.kernel_model.specs.Folder.{paths_of};
 ghost use Rattle.kernel_model.specs.Lawful.{IsLawful};
 ghost use Rattle.history_model.specs.Sound.{WordLayout};
+ghost use Rattle.execution_model.specs.Execution.{IsExecution};
+ghost use Rattle.execution_model.specs.Runs.{logged_tasks};
 ghost use Rattle.certainty_model.specs.Certain.{IsCertain, IsFixed, IsRun};
 ghost use Rattle.serial_run.specs.Placing.{ElementLayout, OfLog, TellsWords};
 ghost use Rattle.serial_team.specs.Members.{WholeLog};
 ghost use Rattle.serial_team.specs.Running.{DidRoot};
 ghost use Rattle.serial_team.specs.Stopping.{RootStopped, StopAt};
+ghost use Rattle.serial_model.specs.Order.{HasSerialHistory};
 ghost use Rattle.serial_laws.specs.SerialRuns.{IsSerialRun, IsStoppedWork, LogsSerialRun};
 
 /// A root that ran to its end, lane after lane, ran the kernel serially: its logs spell the tasks of that run, and its words are those
@@ -30,12 +32,22 @@ pub fn stopped_teams_work_serially()
         (s : RootStopped layout program left first) → IsStoppedWork program layout.words s.stopped.work s.after.words }
 {}
 
-/// The tasks of a serial run are those of a whole run, in the order of an index, and a legal history of them ends in its words.
+/// So the logs of its tasks are an execution of the kernel, listed as in an index, and a legal history of them in serial order ends in its words.
+pub fn stopped_teams_begin_a_run()
+    ensures execution { (layout : ElementLayout) (program : Program) (left : ℕ) (first : StopAt) → IsLawful program → TellsWords program.arrays layout →
+        (s : RootStopped layout program left first) → layout.bound ≡ OfLog → IsExecution program (logged_tasks 4 s.stopped.work) layout.words.address s.after.words }
+    ensures listed { (layout : ElementLayout) (program : Program) (left : ℕ) (first : StopAt) → IsLawful program → TellsWords program.arrays layout →
+        (s : RootStopped layout program left first) → layout.bound ≡ OfLog → IsListing (paths_of (logged_tasks 4 s.stopped.work)) }
+    ensures history { (layout : ElementLayout) (program : Program) (left : ℕ) (first : StopAt) → IsLawful program → TellsWords program.arrays layout →
+        (s : RootStopped layout program left first) → layout.bound ≡ OfLog → HasSerialHistory (logs_of (logged_tasks 4 s.stopped.work)) layout.words.address s.after.words }
+{}
+
+/// The tasks of a serial run are those of a whole run, in the order of an index, and a legal history of them in serial order ends in its words.
 pub fn serial_runs_are_whole_runs()
     ensures run { (program : Program) (layout : WordLayout) (tasks : Trace) (words : List ℕ) → IsSerialRun program layout tasks words → IsRun program tasks }
     ensures listed { (program : Program) (layout : WordLayout) (tasks : Trace) (words : List ℕ) → IsSerialRun program layout tasks words → IsListing (paths_of tasks) }
     ensures ends { (program : Program) (layout : WordLayout) (tasks : Trace) (words : List ℕ) → IsSerialRun program layout tasks words →
-        HasLegalHistory (logs_of tasks) layout.address words }
+        HasSerialHistory (logs_of tasks) layout.address words }
 {}
 
 /// The tasks that such logs are of keep every rule of a folder.

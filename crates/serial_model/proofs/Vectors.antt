@@ -2,6 +2,7 @@
 use Rattle.std.proofs.Common.{◌≡◌, refl, sym, ap, ◌∙◌, subst, ◌↔◌, ℕ, ◌<◌, List, [], ◌∷◌, ◌++◌, arith}
 use Rattle.sw_base.specs.declared.path.Step.{Step}
 use Rattle.race_model.specs.Trace.{Logs, Node}
+use Rattle.race_model.specs.Order.{HappensBefore}
 use Rattle.race_model.specs.Race.{IsUnordered}
 use Rattle.race_model.specs.History.{Entry}
 use Rattle.serial_model.specs.Order.{ComesFirst, HasSmallerLane, IsInSerialOrder}
@@ -62,3 +63,8 @@ reversed_lanes logs n m xs ys x y least mine yours u order =
     greater_lane n m xs ys least
     (subst (λ (p : List Step). HasSmallerLane p (lane m ∷ ys)) mine
     (subst (λ (p : List Step). HasSmallerLane x.node.path p) yours ((unordered_go_by_lanes logs x.node y.node u).0 (order [] [] [] x y refl))))
+
+-- a record that happens before another doesn't come behind it, whatever their lanes are
+pub none_comes_back : (logs : Logs) (x y : Node) → HappensBefore logs y x → (HappensBefore logs x y → ⊥) → ComesFirst logs x y → ⊥
+none_comes_back logs x y reaches not_before (ComesFirst.before back) = not_before back
+none_comes_back logs x y reaches not_before (ComesFirst.beside not_after smaller) = not_after reaches

@@ -1,6 +1,6 @@
 ghost use Rattle.std.specs.Prelude.{ℕ, List, []};
 ghost use Rattle.race_model.specs.Listing.{IsListing};
-ghost use Rattle.race_model.specs.History.{HasLegalHistory, IsReleased};
+ghost use Rattle.race_model.specs.History.{IsReleased};
 ghost use Rattle.race_model.specs.Trace.{Logs, logs_of};
 ghost use Rattle.kernel_syntax.specs.Program.{Program};
 ghost use Rattle.kernel_model.specs.Folder.{paths_of};
@@ -19,14 +19,14 @@ pub fn serial_work_has_a_history()
     ensures { (word : ℕ → ℕ) (root : Work) (memory : List ℕ) → IsSerial word root → Leaves word root memory → HasHistory (did word [] 0 root) memory }
 {}
 
-/// The logs of a serial run are those of a whole run, listed as in an index, and one legal history of them ends in its words.
+/// The logs of a serial run are those of a whole run, listed as in an index, and a legal history of them in serial order ends in its words.
 pub fn serial_runs_are_runs()
     ensures run { (program : Program) (layout : WordLayout) (depth : ℕ) (root : Work) (memory words : List ℕ) →
         RunsSerially program layout depth root memory words → IsRun program (logged_tasks depth root) }
     ensures listed { (program : Program) (layout : WordLayout) (depth : ℕ) (root : Work) (memory words : List ℕ) →
         RunsSerially program layout depth root memory words → IsListing (paths_of (logged_tasks depth root)) }
     ensures ends { (program : Program) (layout : WordLayout) (depth : ℕ) (root : Work) (memory words : List ℕ) →
-        RunsSerially program layout depth root memory words → HasLegalHistory (logs_of (logged_tasks depth root)) layout.address words }
+        RunsSerially program layout depth root memory words → HasSerialHistory (logs_of (logged_tasks depth root)) layout.address words }
 {}
 
 /// The order in which a tree of work lists its steps is the serial order: where each step finds what those before it left, the logs of its tasks,
