@@ -5,20 +5,24 @@ ghost use Rattle.pair_compare.specs.Groups.{IsGroupPair, IsSameGroup, IsSameMemb
 
 use crate::group::{Group, groups};
 use crate::member::Member;
+use crate::task::runs_in_all;
 use log_segment::Segment;
 use std::alloc::Global;
 use std::thread;
 use std::thread::Threads;
 use sw_base::Memory;
 
-/// Fewer members than these aren't worth a thread.
+/// A group of fewer members than these isn't worth a thread of its own.
 const FEW: usize = 512;
 
-fn threads_for(members: usize, workers: usize) -> usize
+/// Nor are groups with fewer runs than these together.
+const FEW_RUNS: usize = 65_536;
+
+fn threads_for(count: usize, few: usize, workers: usize) -> usize
     requires { 1 ≤ workers }
     ensures { 1 ≤ result }
 {
-    if members < FEW {
+    if count < few {
         return 1;
     }
     workers
@@ -29,7 +33,7 @@ fn measure_members<R: Threads + Sync>(rt: &R, members: &mut [Member], workers: u
     ensures count { length members.new ≡ length members.old }
     ensures same { (i : ℕ) (d : _) → i < length members.old → IsSameMember (slice_index_or members.old i d) (slice_index_or members.new i d) }
 {
-    let threads = threads_for(members.len(), workers);
+    let threads = threads_for(members.len(), FEW, workers);
     thread::for_each_mut(rt, members, threads, &|_place, member| { member.measure() });
 }
 
@@ -38,14 +42,6 @@ fn measure_group<R: Threads + Sync>(rt: &R, group: &mut Group, workers: usize)
     ensures { IsSameGroup group.old group.new }
 {
     measure_members(rt, &mut group.members, workers);
-}
-
-fn members_in(groups: &[Group]) -> usize {
-    let mut members = 0usize;
-    for group in groups {
-        members = members.saturating_add(group.members.len());
-    }
-    members
 }
 
 // Measures a group that isn't worth a thread of its own.
@@ -72,7 +68,7 @@ fn measure_all_short<R: Threads + Sync>(rt: &R, groups: &mut [Group], workers: u
     ensures count { length groups.new ≡ length groups.old }
     ensures same { (i : ℕ) (d : _) → i < length groups.old → KeepsGroup (slice_index_or groups.old i d) (slice_index_or groups.new i d) }
 {
-    let threads = threads_for(members_in(groups), workers);
+    let threads = threads_for(runs_in_all(groups), FEW_RUNS, workers);
     thread::for_each_mut(
         rt,
         groups,

@@ -147,7 +147,8 @@ fn cut_group<'g, 's>(
     cut_at(members, singly, cuts.as_slice(), runs / parts, tasks)
 }
 
-fn runs_in_all(groups: &[Group]) -> usize {
+/// How many runs the groups have.
+pub fn runs_in_all(groups: &[Group]) -> usize {
     let mut runs = 0usize;
     for group in groups {
         runs = runs.saturating_add(runs_in(group.members.as_slice()));

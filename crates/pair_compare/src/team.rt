@@ -134,6 +134,17 @@ fn find<R: Threads + Sync, G: Gate>(
     gather(alloc, team)
 }
 
+// As many threads as there are workers, but one where there is nothing to do.
+fn threads_for(tasks: &[Task], workers: usize) -> usize
+    requires { 1 ≤ workers }
+    ensures { 1 ≤ result }
+{
+    if tasks.is_empty() {
+        return 1;
+    }
+    workers
+}
+
 /// The pairs of the tasks, found by so many workers at once, each of which enters the gate when it starts.
 pub fn search_all<R: Threads + Sync, G: Gate>(
     rt: &R,
@@ -148,5 +159,5 @@ pub fn search_all<R: Threads + Sync, G: Gate>(
 {
     let mut team = Vec::new(alloc);
     deal(alloc, tasks, workers, &mut team)?;
-    find(rt, alloc, &mut team, workers, gate)
+    find(rt, alloc, &mut team, threads_for(tasks, workers), gate)
 }
