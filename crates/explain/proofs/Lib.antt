@@ -1,5 +1,6 @@
 pub mod Answering
 pub mod AtLevel
+pub mod Filing
 pub mod Hits
 pub mod Kept
 pub mod Logs
@@ -12,4 +13,5 @@ pub mod Pairs
 pub mod Probing
 pub mod Runs
 pub mod Scanning
+pub mod Teams
 pub mod Witnesses

@@ -22,10 +22,11 @@ use Rattle.stride_summary.specs.Run.{HasPair, HasRunAddress, run_key}
 use Rattle.sw_base.specs.declared.path.Step.{Step}
 use Rattle.race_model.proofs.TraceLogs.{record_there}
 use Rattle.explain.specs.Least.{FindsLeast, FindsRace, RacesOn}
-use Rattle.explain.specs.Suspects.{FindsMet, HasOwn, HoldAccesses, HoldPartners, IsOnLines, MayMeet}
+use Rattle.explain.specs.Suspects.{FindsMet, HasOwn, HoldAccesses, HoldPartners, IsOnLines, MayMeet, team_of}
 use Rattle.explain.specs.Witness.{IsInLog, TellsRecord}
 use Rattle.explain.specs.declared.finding.Found.{Found}
 use Rattle.explain.specs.declared.stretch.RecordRange.{RecordRange}
+use Rattle.explain.proofs.Teams.{same_team}
 
 -- a run of this key at this address, alone
 alone : (run : Run) (key : Key) (address : ℕ) → run_key run ≡ key → HasRunAddress run address → HasPair (run ∷ []) key address
@@ -61,6 +62,9 @@ module _ (trace : Trace) (lines : ℕ × ℕ) (x y : Node) (byte : ℕ) (keeps :
 
   concurrent : IsConcurrent own.label their.label
   concurrent = unordered_concurrent logs x y own.label their.label (fork_join trace keeps) (record_there logs x races.r race.left) (record_there logs y races.s race.right) mine.has.label yours.has.label race.unordered
+
+  pub same : team_of own.label ≡ team_of their.label
+  same = same_team logs x y own.label their.label mine.has.label yours.has.label concurrent
 
   conflict : IsConflict own_key races.r.addr other_key races.s.addr
   conflict = record {
@@ -119,11 +123,12 @@ module _ (trace : Trace) (lines : ℕ × ℕ) (segments : List Segment) (keeps :
 
   -- and none of a task whose intervals don't
   pub no_race : (place : ℕ) (path : List Step) → ((x : Node) → IsInLog trace place x → x.path ≡ path)
-      → ((own their : Segment) → Contains segments own → Contains segments their → own.path ≡ path → IsRacingPair own their lines → ⊥) → FindsRace trace lines place None
+      → ((own their : Segment) → Contains segments own → Contains segments their → own.path ≡ path → team_of own.label ≡ team_of their.label → IsRacingPair own their lines → ⊥)
+      → FindsRace trace lines place None
   no_race place path path_of never x in_x other y byte later in_y races =
       let o = are_own place other x y byte in_x in_y races in
       let within = o.mine.within in
-      never o.own o.their o.own_in o.their_in (within.path_is ∙ path_of x in_x) (racing trace lines x y byte keeps races o.own o.their o.mine o.yours)
+      never o.own o.their o.own_in o.their_in (within.path_is ∙ path_of x in_x) (same trace lines x y byte keeps races o.own o.their o.mine o.yours) (racing trace lines x y byte keeps races o.own o.their o.mine o.yours)
 
   -- those that race with a record are in the intervals that it meets
   pub holds_partners : (place : ℕ) (x : Node) (one : Found) (path : List Step) (number : ℕ) (met : List RecordRange) → IsInLog trace place x → TellsRecord (logs_of trace) x one → x.path ≡ path → number ≡ x.index + 1
@@ -133,7 +138,7 @@ module _ (trace : Trace) (lines : ℕ × ℕ) (segments : List Segment) (keeps :
       let within = o.mine.within in
       let low = within.low in
       let high = within.high in
-      let among = finds o.own o.their o.own_in o.their_in (record { path_is = within.path_is ∙ path_is; low = omega (arith, low, number_is); high = omega (arith, high, number_is) })
+      let among = finds o.own o.their o.own_in o.their_in (same trace lines x y byte keeps races o.own o.their o.mine o.yours) (record { path_is = within.path_is ∙ path_is; low = omega (arith, low, number_is); high = omega (arith, high, number_is) })
       (may_meet trace lines x y byte keeps races o.own o.their o.mine o.yours one tells) in
       let record_there = o.yours.within in
       let first = among.first_is in

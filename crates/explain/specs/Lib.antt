@@ -1,4 +1,5 @@
 pub mod Finding
 pub mod Witness
 pub mod Least
+pub mod Filed
 pub mod Suspects

@@ -1,11 +1,11 @@
 -- The accesses of two lines, and barrier intervals in which a record may race with another.
-use Rattle.std.specs.Prelude.{◌≡◌, ◌⊎◌, ℕ, ◌+◌, ◌≤◌, List, [], ◌∷◌, Contains, Some}
+use Rattle.std.specs.Prelude.{◌≡◌, ◌⊎◌, ℕ, ◌+◌, ◌≤◌, List, [], ◌∷◌, Contains, Option, Some, None, slice_get}
 use Rattle.log_format.specs.declared.record.Record.{Record}
 use Rattle.log_segment.specs.Accesses.{key_at}
 use Rattle.log_segment.specs.Intervals.{HasAccess}
 use Rattle.log_segment.specs.declared.segment.Segment.{Segment}
 use Rattle.pair_compare.specs.Conflict.{IsConflictPair}
-use Rattle.race_model.specs.Label.{IsConcurrent}
+use Rattle.race_model.specs.Label.{IsConcurrent, Triple}
 use Rattle.race_model.specs.Race.{IsAccess, held_at}
 use Rattle.race_model.specs.Trace.{Trace, Logs, Node, logs_of, record_at}
 use Rattle.stride_summary.specs.Run.{HasRunAddress, run_key}
@@ -63,10 +63,22 @@ pub record IsAmong (their : Segment) (stretches : List RecordRange) : Type 0 whe
   pub first_is : stretch.first ≡ their.first
   pub last_is : stretch.last ≡ their.last
 
--- each interval with an access that the record may race with is among the stretches, where one of the intervals has the record
+abbrev pub region_in : Option Triple → ℕ
+region_in None = 0
+region_in (Some t) = t.offset
+
+abbrev pub barrier_in : Option Triple → ℕ
+barrier_in None = 0
+barrier_in (Some t) = t.barrier
+
+-- what the labels of concurrent intervals have in common: how many regions the root forked before, and how many barriers the team of the root's region has passed
+abbrev pub team_of : List Triple → ℕ × ℕ
+team_of label = (region_in (slice_get label 0), barrier_in (slice_get label 1))
+
+-- each interval of the same team with an access that the record may race with is among the stretches, where one of the intervals has the record
 abbrev pub FindsMet : List Segment → List Step → ℕ → Found → ℕ × ℕ → List RecordRange → Type 0
-FindsMet segments path number one lines stretches = (own their : Segment) → Contains segments own → Contains segments their → IsRunWithin own.path own.first own.last path number
-    → MayMeet own their one lines → IsAmong their stretches
+FindsMet segments path number one lines stretches = (own their : Segment) → Contains segments own → Contains segments their → team_of own.label ≡ team_of their.label
+    → IsRunWithin own.path own.first own.last path number → MayMeet own their one lines → IsAmong their stretches
 
 -- each record that races with x in these lines is in one of the stretches
 abbrev pub HoldPartners : Trace → ℕ × ℕ → Node → List RecordRange → Type 0

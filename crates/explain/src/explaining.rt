@@ -16,6 +16,7 @@ ghost use Rattle.explain.specs.Witness.{HoldsListedRun, WalksFolder};
 use crate::keeping::keep_lines;
 use crate::searching::least_race;
 use crate::suspecting::{has_pair, suspects_of};
+use crate::suspects::Suspects;
 use log_index::Row;
 use log_segment::Segment;
 use log_walk::{Sweep, WalkFault};
@@ -72,7 +73,8 @@ fn least_among<F: Folder>(
     if !racing {
         return Ok(None);
     }
-    let suspects = suspects_of(alloc, segments)?;
+    let all = suspects_of(alloc, segments)?;
+    let suspects = Suspects::build(alloc, &all)?;
     least_race(alloc, folder, dir, rows, &suspects, lines)
 }
 

@@ -13,8 +13,8 @@ use crate::explaining::RacePair;
 use crate::finding::{Found, found_at, next_record, open_log};
 use crate::passing::ReadPlace;
 use crate::stretch::{RecordRange, has_path, has_record};
-use crate::suspect::Suspect;
 use crate::suspecting::{is_row_suspected, met_by};
+use crate::suspects::Suspects;
 use log_format::Record;
 use log_index::Row;
 use log_walk::WalkFault;
@@ -157,7 +157,7 @@ fn partner_at<F: Folder>(
     folder: &mut F,
     dir: &str,
     rows: &[Row],
-    suspects: &[Suspect<'_>],
+    suspects: &Suspects<'_, '_>,
     first: usize,
     number: u32,
     one: &Found,
@@ -203,7 +203,7 @@ fn race_in_log<F: Folder>(
     folder: &mut F,
     dir: &str,
     rows: &[Row],
-    suspects: &[Suspect<'_>],
+    suspects: &Suspects<'_, '_>,
     first: usize,
     lines: (u32, u32),
 ) -> Result<Option<RacePair>, WalkFault>
@@ -241,7 +241,7 @@ pub fn least_race<F: Folder>(
     folder: &mut F,
     dir: &str,
     rows: &[Row],
-    suspects: &[Suspect<'_>],
+    suspects: &Suspects<'_, '_>,
     lines: (u32, u32),
 ) -> Result<Option<RacePair>, WalkFault>
     requires few { length rows.now < 2 ^ 32 }

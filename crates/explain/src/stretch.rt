@@ -19,7 +19,7 @@ fn are_same(steps: &[Step], others: &[Step]) -> bool
 }
 
 /// Whether both are the path of one task.
-pub fn is_path(path: &Path, other: &Path) -> bool
+fn is_path(path: &Path, other: &Path) -> bool
     ensures { IsTrue result ↔ (path.now ≡ other.now) }
 {
     are_same(path.steps(), other.steps())

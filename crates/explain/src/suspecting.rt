@@ -4,12 +4,14 @@ ghost use Rattle.log_segment.specs.Accesses.{is_atomic, is_write, key_at};
 ghost use Rattle.log_segment.specs.declared.segment.Segment.{Segment as Interval};
 ghost use Rattle.pair_compare.specs.Compare.{IsRacingPair, IsSegmentPair};
 ghost use Rattle.stride_summary.specs.Run.{HasRunAddress, run_key};
-ghost use Rattle.explain.specs.Suspects.{FindsMet, IsAmong, IsRunWithin, MayMeet};
+ghost use Rattle.explain.specs.Filed.{HasOne};
+ghost use Rattle.explain.specs.Suspects.{FindsMet, IsAmong, IsRunWithin, MayMeet, team_of};
 ghost use Rattle.explain.specs.declared.stretch.RecordRange.{RecordRange as Records};
 
 use crate::finding::Found;
-use crate::stretch::{RecordRange, is_path, is_within};
+use crate::stretch::{RecordRange, is_within};
 use crate::suspect::{Suspect, line_of};
+use crate::suspects::Suspects;
 use log_format::Kind;
 use log_segment::Segment;
 use pair_compare::compare_alone;
@@ -39,16 +41,16 @@ pub fn suspects_of<'s>(alloc: Global, segments: &'s [Segment]) -> Result<Vec<Sus
     Ok(suspects)
 }
 
-/// Whether an access of the interval races in these lines with one of a suspect. All its accesses are of the line that is told.
+/// Whether an access of the interval races in these lines with one of these suspects. All its accesses are of the line that is told.
 fn meets(
     alloc: Global,
     own: &Segment,
     line: Option<u32>,
-    suspects: &[Suspect<'_>],
+    suspects: &[&Suspect<'_>],
     lines: (u32, u32),
 ) -> Result<bool, Memory>
     requires { IfSome line (λ n. All (λ run. run.line ≡ n) own.now.runs.items) }
-    ensures { IfOk result (λ yes. (their : Interval) → Contains suspects.now their → IsRacingPair own.now their lines → IsTrue yes) }
+    ensures { IfOk result (λ yes. (their : Interval) → HasOne their suspects.now → IsRacingPair own.now their lines → IsTrue yes) }
 {
     for suspect in suspects {
         let racing = suspect.has_race(alloc, own, line, lines)?;
@@ -59,18 +61,38 @@ fn meets(
     Ok(false)
 }
 
+/// Whether an access of a suspect races in these lines with one of another.
+fn is_racing(
+    alloc: Global,
+    suspects: &Suspects<'_, '_>,
+    suspect: &Suspect<'_>,
+    lines: (u32, u32),
+) -> Result<bool, Memory>
+    ensures { IfOk result (λ yes. (their : Interval) → Contains suspects.now their → team_of suspect.now.label ≡ team_of their.label → IsRacingPair suspect.now their lines → IsTrue yes) }
+{
+    let own = suspect.segment();
+    let Some(beside) = suspects.beside(&own.label) else {
+        return Ok(false);
+    };
+    meets(alloc, own, suspect.line(), beside, lines)
+}
+
 /// Whether an access of the task races in these lines with one of a suspect.
 pub fn is_row_suspected(
     alloc: Global,
-    suspects: &[Suspect<'_>],
+    suspects: &Suspects<'_, '_>,
     path: &Path,
     lines: (u32, u32),
 ) -> Result<bool, Memory>
-    ensures { IfOk result (λ yes. (own their : Interval) → Contains suspects.now own → Contains suspects.now their → own.path ≡ path.now → IsRacingPair own their lines → IsTrue yes) }
+    ensures { IfOk result (λ yes. (own their : Interval) → Contains suspects.now own → Contains suspects.now their → own.path ≡ path.now → team_of own.label ≡ team_of their.label
+        → IsRacingPair own their lines → IsTrue yes) }
 {
-    for suspect in suspects {
-        let own = suspect.segment();
-        if is_path(&own.path, path) && meets(alloc, own, suspect.line(), suspects, lines)? {
+    let Some(owns) = suspects.of_task(path) else {
+        return Ok(false);
+    };
+    for own in owns {
+        let racing = is_racing(alloc, suspects, own, lines)?;
+        if racing {
             return Ok(true);
         }
     }
@@ -180,16 +202,16 @@ fn add_if_met(
     Ok(())
 }
 
-/// Adds the suspects with an access that may race in these lines with the record, which has the label of the interval.
+/// Adds those of these suspects with an access that may race in these lines with the record, which has the label of the interval.
 fn add_met(
     alloc: Global,
     own: &Segment,
-    suspects: &[Suspect<'_>],
+    suspects: &[&Suspect<'_>],
     one: &Found,
     lines: (u32, u32),
     met: &mut Vec<RecordRange>,
 ) -> Result<(), Memory>
-    ensures met { OnOk result ((their : Interval) → Contains suspects.now their → MayMeet own.now their one.now lines → IsAmong their met.new.items) }
+    ensures met { OnOk result ((their : Interval) → HasOne their suspects.now → MayMeet own.now their one.now lines → IsAmong their met.new.items) }
     ensures old { OnOk result ((s : Records) → Contains met.old.items s → Contains met.new.items s) }
 {
     let alone = alone_of(alloc, own, one)?;
@@ -199,30 +221,34 @@ fn add_met(
     Ok(())
 }
 
-/// The same where the interval has the record of this number.
+/// The same of all suspects, where the interval has the record of this number.
 fn add_met_within(
     alloc: Global,
+    suspects: &Suspects<'_, '_>,
     own: &Segment,
-    suspects: &[Suspect<'_>],
     path: &Path,
     number: u32,
     one: &Found,
     lines: (u32, u32),
     met: &mut Vec<RecordRange>,
 ) -> Result<(), Memory>
-    ensures met { OnOk result (IsRunWithin own.now.path own.now.first own.now.last path.now number → (their : Interval) → Contains suspects.now their → MayMeet own.now their one.now lines → IsAmong their met.new.items) }
+    ensures met { OnOk result (IsRunWithin own.now.path own.now.first own.now.last path.now number → (their : Interval) → Contains suspects.now their
+        → team_of own.now.label ≡ team_of their.label → MayMeet own.now their one.now lines → IsAmong their met.new.items) }
     ensures old { OnOk result ((s : Records) → Contains met.old.items s → Contains met.new.items s) }
 {
     if !is_within(&own.path, own.first, own.last, path, number) {
         return Ok(());
     }
-    add_met(alloc, own, suspects, one, lines, met)
+    let Some(beside) = suspects.beside(&own.label) else {
+        return Ok(());
+    };
+    add_met(alloc, own, beside, one, lines, met)
 }
 
 /// The suspects with an access that may race in these lines with the record of this number: each with one that does.
 pub fn met_by(
     alloc: Global,
-    suspects: &[Suspect<'_>],
+    suspects: &Suspects<'_, '_>,
     path: &Path,
     number: u32,
     one: &Found,
@@ -231,9 +257,12 @@ pub fn met_by(
     ensures { IfOk result (λ met. FindsMet suspects.now path.now number one.now lines met.items) }
 {
     let mut met = Vec::new(alloc);
-    for suspect in suspects {
+    let Some(owns) = suspects.of_task(path) else {
+        return Ok(met);
+    };
+    for suspect in owns {
         let own = suspect.segment();
-        add_met_within(alloc, own, suspects, path, number, one, lines, &mut met)?;
+        add_met_within(alloc, suspects, own, path, number, one, lines, &mut met)?;
     }
     Ok(met)
 }

@@ -11,4 +11,4 @@ returns-then-not-racing-clause-explains g c = λ x told trace run all.
 
 pub returns-clause-explains : goal.returns-clause-explains
 returns-clause-explains g c = λ x told trace run all.
-    c.least_race.ensures.explains x told trace run (subst (λ (xs : List Segment). HoldAccesses trace c.args.lines xs) (sym (c.deref.ensures.value ∙ c.in_ok-suspects.ensures)) all)
+    c.least_race.ensures.explains x told trace run (subst (λ (xs : List Segment). HoldAccesses trace c.args.lines xs) (sym (c.in_ok-suspects.ensures ∙ (c.deref.ensures.value ∙ c.in_ok-all.ensures))) all)

@@ -20,7 +20,7 @@ returns-then-not-suspected-clause-finds g c = λ x told trace run all.
     let log = log_of x c.args.dir.now c.args.rows.now trace run c.args.first c.index-rows-first.result row in
     no_race trace c.args.lines c.args.suspects.now run.keeps all c.args.first c.row.inside.path
     (λ y in_y. path_of x c.args.dir.now trace c.args.first c.index-rows-first.result log y in_y ∙ sym (ap (λ (r : Row). r.path) c.row.view_is))
-    (λ own their own_in their_in path racing. not_so (c.in_ok-suspected.ensures own their own_in their_in path racing) c.if-not-suspected.true)
+    (λ own their own_in their_in path team racing. not_so (c.in_ok-suspected.ensures own their own_in their_in path team racing) c.if-not-suspected.true)
 
 pub records-init : goal.records-init
 records-init g c = record {
