@@ -7,7 +7,7 @@ use Rattle.race_model.specs.Race.{IsAccess, held_after, held_at}
 use Rattle.race_model.specs.Segment.{Event, Segment as Interval, is_access, is_access_event, has_access, runs_of, events, segment_of, intervals, task_segments, segments_of, first_number, last_number}
 use Rattle.race_model.specs.Trace.{Trace, Node, logs_of, record_at}
 use Rattle.log_segment.specs.Accesses.{key_at}
-use Rattle.log_segment.specs.Intervals.{HasAccess, HasEvent, IsSegmentOf}
+use Rattle.log_segment.specs.Intervals.{HasEvent, IsSegmentOf}
 use Rattle.log_segment.specs.declared.segment.Segment.{Segment}
 use Rattle.log_segment.proofs.Following.{kind_access}
 use Rattle.log_segment.proofs.Members.{In, to_contains, in_map, in_filter, in_flat, zip_on}

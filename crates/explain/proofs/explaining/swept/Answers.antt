@@ -1,10 +1,10 @@
-use Rattle.std.proofs.Common.{rules, ◌≡◌, List, [], ◌∷◌, ◌++◌, Option, ap, sym, subst, ◌∙◌, arith}
+use Rattle.std.proofs.Common.{rules, ◌≡◌, List, [], ◌∷◌, ◌++◌, Option, ap, sym, subst, ◌∙◌}
 use Rattle.std.proofs.lemmas.Result.{err_from_is_err_and}
 use Rattle.log_format.specs.declared.format.TheConstants.{FORMAT}
 use Rattle.log_segment.specs.declared.segment.Segment.{Segment}
 use Rattle.log_walk.specs.Sweep.{GivesRegion, HasSwept, HasSweptAll}
 use Rattle.log_walk.specs.declared.sweep.Sweep.{Sweep}
-use Rattle.log_walk.proofs.WalkMoves.{WalkedTo, walked_more}
+use Rattle.log_walk.proofs.WalkMoves.{walked_more}
 use Rattle.sw_base.specs.Environment.{Content, FolderState}
 use Rattle.explain.specs.Suspects.{IsOnLines, KeepsRuns}
 use Rattle.explain.proofs.Answering.{none_is_some}

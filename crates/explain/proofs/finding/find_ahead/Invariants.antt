@@ -1,4 +1,4 @@
-use Rattle.std.proofs.Common.{◌≡◌, ◌≤◌, List}
+use Rattle.std.proofs.Common.{◌≡◌, List}
 use Rattle.sw_base.specs.Environment.{WhereTold}
 use Rattle.log_format.specs.declared.record.Record.{Record as LogRecord}
 use Rattle.log_reader.specs.Reading.{StandsBefore}

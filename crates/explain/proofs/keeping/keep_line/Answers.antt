@@ -3,7 +3,6 @@ use Rattle.std.specs.Prelude.{slice_get}
 use Rattle.std.proofs.lemmas.Bool.{cases_order}
 use Rattle.std.proofs.lemmas.Option.{same_Some}
 use Rattle.log_segment.specs.declared.segment.Segment.{Segment}
-use Rattle.explain.specs.Suspects.{HasPart}
 use Rattle.explain.proofs.Answering.{contains_at, place_is}
 use Rattle.explain.proofs.Kept.{part_again, part_more}
 use Rattle.explain.proofs.keeping.keep_line.Goals as goal

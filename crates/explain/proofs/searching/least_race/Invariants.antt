@@ -1,4 +1,4 @@
-use Rattle.std.proofs.Common.{◌≡◌, ◌≤◌}
+use Rattle.std.proofs.Common.{◌≡◌}
 use Rattle.sw_base.specs.Environment.{WhereTold}
 use Rattle.race_model.specs.Trace.{Trace}
 use Rattle.explain.specs.Suspects.{HoldAccesses}

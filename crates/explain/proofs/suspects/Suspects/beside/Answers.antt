@@ -1,4 +1,4 @@
-use Rattle.std.proofs.Common.{◌≡◌, ℕ, List, Contains, sym, subst, ◌∙◌}
+use Rattle.std.proofs.Common.{ℕ, List, Contains, sym, subst, ◌∙◌}
 use Rattle.log_segment.specs.declared.segment.Segment.{Segment}
 use Rattle.race_model.specs.Race.{pair_cmp}
 use Rattle.explain.specs.Filed.{AreFiled, IsFiled}

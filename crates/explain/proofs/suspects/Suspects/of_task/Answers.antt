@@ -1,4 +1,4 @@
-use Rattle.std.proofs.Common.{◌≡◌, List, Contains, sym, subst, ◌∙◌}
+use Rattle.std.proofs.Common.{List, Contains, sym, subst}
 use Rattle.log_segment.specs.declared.segment.Segment.{Segment}
 use Rattle.sw_base.specs.Names.{path_cmp}
 use Rattle.sw_base.specs.declared.path.Step.{Step}
