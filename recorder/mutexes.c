@@ -38,8 +38,9 @@ void choose_epoch(Task *t)
         for (unsigned k = 0; k < n; k++) set->mutex[k] = t->mutex[k];
         set->epoch = ++me->epochs;
     }
-    t->epoch = set->epoch;
+    t->low = set->epoch << 32;
     t->high = set->epoch >> 32 << 48;
+    t->spread = hash(set->epoch) >> 32;
 }
 
 void drop_locks(Task *t, unsigned to)

@@ -75,9 +75,9 @@ struct Part {
 };
 
 // A place in the table of what was logged: 64 neighbours (bytes, or elements of 2, 4 or 8) as one line accesses them in one interval, with one size
-// and set of mutexes. A bit stands for each.
+// and set of mutexes. A bit stands for each; those of `writes` are in `any`, too.
 typedef struct {
-    uint64_t what, when, reads, writes;
+    uint64_t what, when, any, writes;
 } Seen;
 
 enum { SET_BITS = 15, SEEN = 2 << SET_BITS }; // of a thread's table of them: sets of two, the last used one first
@@ -98,7 +98,8 @@ struct Task {
     unsigned char *since;    // the first record after the last one that isn't an access
     Seen *seen;              // its thread's
     unsigned pending;        // what must be done before an access is logged
-    uint64_t epoch, high;    // the interval's and set's number, and its upper bits as the table has them
+    uint64_t low, high;      // the number of the interval and set, as the table has it: lower and upper bits
+    uint32_t spread;         // and where in the table
     unsigned char *block;
     uint32_t written; // records that are in the file
     uint32_t barriers, barrier_line;
@@ -182,6 +183,7 @@ static inline void spell(unsigned char *to, uint64_t head, uint64_t address, uin
 
 // lines.c: a place is site << 32 | line, as a record has it
 extern uint64_t text_low, text_length; // of the program's own code
+extern atomic_ullong quick_length;     // the same, or 0 while stacks have names
 extern _Atomic uint64_t *places;       // by address in it; 0: not asked yet
 void lines_start(void);
 void lines_tell(void);
