@@ -156,17 +156,12 @@ void __tsan_func_exit(void) {}
 void __tsan_ignore_thread_begin(void) {}
 void __tsan_ignore_thread_end(void) {}
 
+#define CALL(N, NAME, KIND) \
+    void __tsan_##NAME##N(void *a) { note(KIND, N, a, RA); }
 #define PLAIN(N) \
-    void __tsan_read##N(void *a) { note(READ, N, a, RA); } \
-    void __tsan_write##N(void *a) { note(WRITE, N, a, RA); } \
-    void __tsan_volatile_read##N(void *a) { note(READ, N, a, RA); } \
-    void __tsan_volatile_write##N(void *a) { note(WRITE, N, a, RA); } \
-    void __tsan_unaligned_read##N(void *a) { note(READ, N, a, RA); } \
-    void __tsan_unaligned_write##N(void *a) { note(WRITE, N, a, RA); } \
-    void __tsan_unaligned_volatile_read##N(void *a) { note(READ, N, a, RA); } \
-    void __tsan_unaligned_volatile_write##N(void *a) { note(WRITE, N, a, RA); } \
-    void __tsan_read_write##N(void *a) { note(WRITE, N, a, RA); } \
-    void __tsan_unaligned_read_write##N(void *a) { note(WRITE, N, a, RA); }
+    CALL(N, read, READ) CALL(N, volatile_read, READ) CALL(N, unaligned_read, READ) CALL(N, unaligned_volatile_read, READ) \
+    CALL(N, write, WRITE) CALL(N, volatile_write, WRITE) CALL(N, unaligned_write, WRITE) CALL(N, unaligned_volatile_write, WRITE) \
+    CALL(N, read_write, WRITE) CALL(N, unaligned_read_write, WRITE)
 PLAIN(1)
 PLAIN(2)
 PLAIN(4)
@@ -179,26 +174,19 @@ void __tsan_vptr_read(void **a) { note(READ, 8, a, RA); }
 void __tsan_vptr_update(void **a, void *v) { note(WRITE, 8, a, RA); }
 
 // An atomic access of any kind is an Update, since only updates don't race with each other. Any order is done as the strongest one.
+#define FETCH(N, T, WHAT) \
+    T __tsan_atomic##N##_fetch_##WHAT(volatile T *a, T v, int o) { note(UPDATE, N / 8, a, RA); return __atomic_fetch_##WHAT(a, v, 5); }
+#define COMPARE(N, T, HOW) \
+    int __tsan_atomic##N##_compare_exchange_##HOW(volatile T *a, T *c, T v, int o, int f) \
+    { \
+        note(UPDATE, N / 8, a, RA); \
+        return __atomic_compare_exchange_n(a, c, v, 0, 5, 5); \
+    }
 #define ATOMIC(N, T) \
     T __tsan_atomic##N##_load(const volatile T *a, int o) { note(UPDATE, N / 8, a, RA); return __atomic_load_n(a, 5); } \
     void __tsan_atomic##N##_store(volatile T *a, T v, int o) { note(UPDATE, N / 8, a, RA); __atomic_store_n(a, v, 5); } \
     T __tsan_atomic##N##_exchange(volatile T *a, T v, int o) { note(UPDATE, N / 8, a, RA); return __atomic_exchange_n(a, v, 5); } \
-    T __tsan_atomic##N##_fetch_add(volatile T *a, T v, int o) { note(UPDATE, N / 8, a, RA); return __atomic_fetch_add(a, v, 5); } \
-    T __tsan_atomic##N##_fetch_sub(volatile T *a, T v, int o) { note(UPDATE, N / 8, a, RA); return __atomic_fetch_sub(a, v, 5); } \
-    T __tsan_atomic##N##_fetch_and(volatile T *a, T v, int o) { note(UPDATE, N / 8, a, RA); return __atomic_fetch_and(a, v, 5); } \
-    T __tsan_atomic##N##_fetch_or(volatile T *a, T v, int o) { note(UPDATE, N / 8, a, RA); return __atomic_fetch_or(a, v, 5); } \
-    T __tsan_atomic##N##_fetch_xor(volatile T *a, T v, int o) { note(UPDATE, N / 8, a, RA); return __atomic_fetch_xor(a, v, 5); } \
-    T __tsan_atomic##N##_fetch_nand(volatile T *a, T v, int o) { note(UPDATE, N / 8, a, RA); return __atomic_fetch_nand(a, v, 5); } \
-    int __tsan_atomic##N##_compare_exchange_strong(volatile T *a, T *c, T v, int o, int f) \
-    { \
-        note(UPDATE, N / 8, a, RA); \
-        return __atomic_compare_exchange_n(a, c, v, 0, 5, 5); \
-    } \
-    int __tsan_atomic##N##_compare_exchange_weak(volatile T *a, T *c, T v, int o, int f) \
-    { \
-        note(UPDATE, N / 8, a, RA); \
-        return __atomic_compare_exchange_n(a, c, v, 0, 5, 5); \
-    } \
+    FETCH(N, T, add) FETCH(N, T, sub) FETCH(N, T, and) FETCH(N, T, or) FETCH(N, T, xor) FETCH(N, T, nand) COMPARE(N, T, strong) COMPARE(N, T, weak) \
     T __tsan_atomic##N##_compare_exchange_val(volatile T *a, T c, T v, int o, int f) \
     { \
         note(UPDATE, N / 8, a, RA); \
@@ -216,19 +204,15 @@ void __tsan_atomic_signal_fence(int o) { __atomic_signal_fence(5); }
 void *__real_memmove(void *, const void *, size_t);
 void *__real_memset(void *, int, size_t);
 
-void *__wrap_memcpy(void *to, const void *from, size_t n)
-{
-    note_range(READ, from, n, RA);
-    note_range(WRITE, to, n, RA);
-    return __real_memcpy(to, from, n);
-}
-
-void *__wrap_memmove(void *to, const void *from, size_t n)
-{
-    note_range(READ, from, n, RA);
-    note_range(WRITE, to, n, RA);
-    return __real_memmove(to, from, n);
-}
+#define COPY(NAME) \
+    void *__wrap_##NAME(void *to, const void *from, size_t n) \
+    { \
+        note_range(READ, from, n, RA); \
+        note_range(WRITE, to, n, RA); \
+        return __real_##NAME(to, from, n); \
+    }
+COPY(memcpy)
+COPY(memmove)
 
 void *__wrap_memset(void *to, int byte, size_t n)
 {
