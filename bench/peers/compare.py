@@ -142,7 +142,8 @@ def large(tools):
     for name in LARGE + SMALL:
         recording, checking, found, records, size = tools.recorded(name, False)
         archer, told = tools.archer(name, False)
-        ratios = [f"{recording[0] / archer[0]:.1f}", f"{(recording[0] + checking[0]) / archer[0]:.1f}"]
+        both = [one + other for one, other in zip(recording, checking)]
+        ratios = ["{:.1f} ({:.1f})".format(*(ours / its for ours, its in zip(times, archer))) for times in (recording, both)]
         cells = [tools.plain(name), recording, checking, found, f"{records:,}", f"{size:,.0f}", told]
         cells += [tools.archer(name, False, " history_size=7")[1], *ratios]
         print(f"| {name} | " + " | ".join(map(str, cells)) + " |", flush=True)
