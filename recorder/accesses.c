@@ -204,15 +204,19 @@ void __tsan_atomic_signal_fence(int o) { __atomic_signal_fence(5); }
 void *__real_memmove(void *, const void *, size_t);
 void *__real_memset(void *, int, size_t);
 
-#define COPY(NAME) \
-    void *__wrap_##NAME(void *to, const void *from, size_t n) \
-    { \
-        note_range(READ, from, n, RA); \
-        note_range(WRITE, to, n, RA); \
-        return __real_##NAME(to, from, n); \
-    }
-COPY(memcpy)
-COPY(memmove)
+void *__wrap_memcpy(void *to, const void *from, size_t n)
+{
+    note_range(READ, from, n, RA);
+    note_range(WRITE, to, n, RA);
+    return __real_memcpy(to, from, n);
+}
+
+void *__wrap_memmove(void *to, const void *from, size_t n)
+{
+    note_range(READ, from, n, RA);
+    note_range(WRITE, to, n, RA);
+    return __real_memmove(to, from, n);
+}
 
 void *__wrap_memset(void *to, int byte, size_t n)
 {
