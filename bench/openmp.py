@@ -3,7 +3,7 @@
 is compiled with clang 14 and run, and the arrays that it shares with the kernels of its row must have the same sums; without clang 14 that is
 left out, and said. Each difference must be that of the two examples that it names, and each kernel of examples/README.md must have one to each of its
 twins: the first is run and must race as it says there, and its twin must have no race and the sums that it says. Each row of the tables must lead to a
-heading.
+heading with both texts.
 
 usage: openmp.py SWORD
 """
@@ -116,9 +116,11 @@ def faults(sword, page, place):
         due = re.findall(r"`(sum \w+ -?\d+)`", rows[other][1])
         found = judged(sword, os.path.join(EXAMPLES, other + ".kernel"), place)
         yield other, None if found == (due, ["races 0"]) else f"{due} and no race are due, and it prints {found}"
-    anchors = {heading.lower().replace(" ", "-") for heading in re.findall(r"^## (.*)$", page, re.M)}
-    for link in sorted(set(re.findall(r"\(#([\w-]+)\)", page))):
-        yield f"#{link}", None if link in anchors else "there is no such heading"
+    texts = {(heading.lower().replace(" ", "-"), language) for heading, language, *_ in blocks(page)}
+    for row in re.findall(r"^\| (?!OpenMP ).*$", page, re.M):
+        link = re.search(r" \[[^|]*\]\(#([\w-]+)\) \|$", row)
+        both = link and {(link[1], "c"), (link[1], "kernel")} <= texts
+        yield row, None if both else "no heading with both texts belongs to it"
 
 
 def main():

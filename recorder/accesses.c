@@ -14,29 +14,25 @@ static Seen nothing[SEEN];
 static Task foreign = {.seen = nothing, .pending = FOREIGN};
 __thread Task *cur = &foreign;
 
-static void add(Task *t, Seen *seen, uint64_t what, uint64_t when, uint64_t address, uint64_t head);
+static inline bool is_ready(const Task *t) { return !t->pending && t->at < t->end; }
 
-// Does what must come before the next access, and then adds it, if it is logged.
-static __attribute__((noinline)) void prepare(Task *t, Seen *seen, uint64_t what, uint64_t when, uint64_t address, uint64_t head)
+// Does what must come before the next access. False: it isn't logged.
+static bool prepare(Task *t)
 {
     if (t->pending & FOREIGN) {
         if (atomic_load_explicit(&regions_now, memory_order_relaxed)) cannot(NULL, WHY_THREADS);
-        return;
+        return false;
     }
     if (t->pending & NEW_LOCKS) log_locks(t);
     if (t->pending & NEW_SEGMENT) open_segment(t);
     t->pending = 0;
-    if (t->at < t->end || make_room(t)) add(t, seen, what, when, address, head);
-    else t->lost++;
+    if (t->at < t->end || make_room(t)) return true;
+    t->lost++;
+    return false;
 }
 
 static inline bool is_of(const Seen *seen, uint64_t what, uint64_t when) { return seen->what == what && seen->when == when; }
-
-// The bits that stand for an access of the kind.
-static inline uint64_t logged(const Seen *seen, unsigned kind)
-{
-    return kind == READ ? seen->reads | seen->writes : kind == WRITE ? seen->writes : seen->reads;
-}
+static inline uint64_t logged(const Seen *seen, unsigned kind) { return kind == WRITE ? seen->writes : seen->any; }
 
 static inline void put(Task *t, uint64_t head, uint64_t address)
 {
@@ -44,8 +40,16 @@ static inline void put(Task *t, uint64_t head, uint64_t address)
     t->at += RECORD;
 }
 
+static inline uint64_t bit_of(uint64_t what, uint64_t address) { return 1ull << (address >> (what >> 3 & 3) & 63); }
+
+static inline void add_bit(Seen *seen, unsigned kind, uint64_t bit)
+{
+    seen->any |= bit;
+    if (kind == WRITE) seen->writes |= bit;
+}
+
 // Logs a Write where the table has the Read that it stands for: that one becomes the Write, if it is one of the last records.
-static void add_over_read(Task *t, uint64_t address, uint64_t head)
+static void put_over_read(Task *t, uint64_t head, uint64_t address)
 {
     const uint64_t kind_and_site = 0xff00ffff00000000ull;
     for (unsigned char *at = t->at; at > t->since && at > t->at - 4 * RECORD;) {
@@ -59,35 +63,44 @@ static void add_over_read(Task *t, uint64_t address, uint64_t head)
     put(t, head, address);
 }
 
-// Logs what the first place of its set doesn't have, and brings its own there.
-static __attribute__((noinline)) void add(Task *t, Seen *seen, uint64_t what, uint64_t when, uint64_t address, uint64_t head)
+// Brings what stands for the access to the first place of its set, does what must come before it, and logs it if nothing stands for it.
+static __attribute__((noinline)) void add_rare(Task *t, Seen *seen, uint64_t what, uint64_t when, uint64_t address, uint64_t head)
 {
     unsigned kind = head >> 56;
-    uint64_t bit = 1ull << (address >> (what >> 3 & 3) & 63);
-    if (t->pending || t->at >= t->end) {
-        prepare(t, seen, what, when, address, head);
-        return;
-    }
+    uint64_t bit = bit_of(what, address);
+    if (!is_ready(t) && !prepare(t)) return;
     if (!is_of(seen, what, when)) {
         Seen older = seen[1];
         seen[1] = seen[0];
         seen[0] = is_of(&older, what, when) ? older : (Seen){what, when, 0, 0};
         if (logged(seen, kind) & bit) return;
     }
-    bool was_read = seen->reads & bit;
-    if (kind == WRITE) seen->writes |= bit;
-    else seen->reads |= bit;
-    if (kind == WRITE && was_read) add_over_read(t, address, head);
+    bool was_read = seen->any & bit;
+    add_bit(seen, kind, bit);
+    if (was_read) put_over_read(t, head, address);
     else put(t, head, address);
+}
+
+// The same, where it is little to do. Apart, since most accesses don't come here.
+static __attribute__((noinline)) void add(Task *t, Seen *seen, uint64_t what, uint64_t when, uint64_t address, uint64_t head)
+{
+    uint64_t bit = bit_of(what, address);
+    if (is_of(seen, what, when) && !(seen->any & bit) && is_ready(t)) {
+        add_bit(seen, head >> 56, bit);
+        put(t, head, address);
+    } else {
+        add_rare(t, seen, what, when, address, head);
+    }
 }
 
 // An access of 1, 2, 4 or 8 bytes.
 static inline __attribute__((always_inline)) void note_at(Task *t, unsigned kind, unsigned size, uint64_t address, uint64_t place)
 {
     const unsigned shift = size == 1 ? 0 : size == 2 ? 1 : size == 4 ? 2 : 3, class = (kind == UPDATE) << 5 | shift << 3;
-    uint64_t block = address >> (6 + shift), when = place << 32 | (uint32_t)t->epoch;
+    uint32_t line = place;
+    uint64_t block = address >> (6 + shift), when = t->low + line;
     uint64_t what = block << (6 + shift) | class | (address & (size - 1)) | t->high;
-    Seen *seen = &t->seen[2 * ((block + (block >> SET_BITS) * 11 + (hash(when) >> (64 - SET_BITS))) % (SEEN / 2))];
+    Seen *seen = &t->seen[2 * (((uint32_t)block + (uint32_t)(block >> SET_BITS) * 9 + line * 2531 + t->spread) % (SEEN / 2))];
     if (__builtin_expect(!is_of(seen, what, when) || !(logged(seen, kind) >> (address >> shift & 63) & 1), 0))
         add(t, seen, what, when, address, (uint64_t)kind << 56 | (uint64_t)size << 48 | place);
 }
@@ -112,11 +125,10 @@ static inline __attribute__((always_inline)) void note(unsigned kind, unsigned s
     Task *t = cur;
     uint64_t address = (uint64_t)where, offset = (uint64_t)return_address - text_low;
     if (!t) return;
-    uint64_t place = offset < text_length ? atomic_load_explicit(&places[offset], memory_order_relaxed) : 0;
-    bool slow = !place || atomic_load_explicit(&stack_names, memory_order_relaxed);
+    uint64_t place = offset < atomic_load_explicit(&quick_length, memory_order_relaxed) ? atomic_load_explicit(&places[offset], memory_order_relaxed) : 0;
     const unsigned part = size == 16 ? 8 : size; // 16 bytes are two accesses
     for (unsigned from = 0; from < size; from += part) {
-        if (__builtin_expect(slow, 0)) note_slowly(kind, part, address + from, return_address);
+        if (__builtin_expect(!place, 0)) note_slowly(kind, part, address + from, return_address);
         else note_at(t, kind, part, address + from, place);
     }
 }
@@ -144,17 +156,12 @@ void __tsan_func_exit(void) {}
 void __tsan_ignore_thread_begin(void) {}
 void __tsan_ignore_thread_end(void) {}
 
+#define CALL(N, NAME, KIND) \
+    void __tsan_##NAME##N(void *a) { note(KIND, N, a, RA); }
 #define PLAIN(N) \
-    void __tsan_read##N(void *a) { note(READ, N, a, RA); } \
-    void __tsan_write##N(void *a) { note(WRITE, N, a, RA); } \
-    void __tsan_volatile_read##N(void *a) { note(READ, N, a, RA); } \
-    void __tsan_volatile_write##N(void *a) { note(WRITE, N, a, RA); } \
-    void __tsan_unaligned_read##N(void *a) { note(READ, N, a, RA); } \
-    void __tsan_unaligned_write##N(void *a) { note(WRITE, N, a, RA); } \
-    void __tsan_unaligned_volatile_read##N(void *a) { note(READ, N, a, RA); } \
-    void __tsan_unaligned_volatile_write##N(void *a) { note(WRITE, N, a, RA); } \
-    void __tsan_read_write##N(void *a) { note(WRITE, N, a, RA); } \
-    void __tsan_unaligned_read_write##N(void *a) { note(WRITE, N, a, RA); }
+    CALL(N, read, READ) CALL(N, volatile_read, READ) CALL(N, unaligned_read, READ) CALL(N, unaligned_volatile_read, READ) \
+    CALL(N, write, WRITE) CALL(N, volatile_write, WRITE) CALL(N, unaligned_write, WRITE) CALL(N, unaligned_volatile_write, WRITE) \
+    CALL(N, read_write, WRITE) CALL(N, unaligned_read_write, WRITE)
 PLAIN(1)
 PLAIN(2)
 PLAIN(4)
@@ -167,26 +174,19 @@ void __tsan_vptr_read(void **a) { note(READ, 8, a, RA); }
 void __tsan_vptr_update(void **a, void *v) { note(WRITE, 8, a, RA); }
 
 // An atomic access of any kind is an Update, since only updates don't race with each other. Any order is done as the strongest one.
+#define FETCH(N, T, WHAT) \
+    T __tsan_atomic##N##_fetch_##WHAT(volatile T *a, T v, int o) { note(UPDATE, N / 8, a, RA); return __atomic_fetch_##WHAT(a, v, 5); }
+#define COMPARE(N, T, HOW) \
+    int __tsan_atomic##N##_compare_exchange_##HOW(volatile T *a, T *c, T v, int o, int f) \
+    { \
+        note(UPDATE, N / 8, a, RA); \
+        return __atomic_compare_exchange_n(a, c, v, 0, 5, 5); \
+    }
 #define ATOMIC(N, T) \
     T __tsan_atomic##N##_load(const volatile T *a, int o) { note(UPDATE, N / 8, a, RA); return __atomic_load_n(a, 5); } \
     void __tsan_atomic##N##_store(volatile T *a, T v, int o) { note(UPDATE, N / 8, a, RA); __atomic_store_n(a, v, 5); } \
     T __tsan_atomic##N##_exchange(volatile T *a, T v, int o) { note(UPDATE, N / 8, a, RA); return __atomic_exchange_n(a, v, 5); } \
-    T __tsan_atomic##N##_fetch_add(volatile T *a, T v, int o) { note(UPDATE, N / 8, a, RA); return __atomic_fetch_add(a, v, 5); } \
-    T __tsan_atomic##N##_fetch_sub(volatile T *a, T v, int o) { note(UPDATE, N / 8, a, RA); return __atomic_fetch_sub(a, v, 5); } \
-    T __tsan_atomic##N##_fetch_and(volatile T *a, T v, int o) { note(UPDATE, N / 8, a, RA); return __atomic_fetch_and(a, v, 5); } \
-    T __tsan_atomic##N##_fetch_or(volatile T *a, T v, int o) { note(UPDATE, N / 8, a, RA); return __atomic_fetch_or(a, v, 5); } \
-    T __tsan_atomic##N##_fetch_xor(volatile T *a, T v, int o) { note(UPDATE, N / 8, a, RA); return __atomic_fetch_xor(a, v, 5); } \
-    T __tsan_atomic##N##_fetch_nand(volatile T *a, T v, int o) { note(UPDATE, N / 8, a, RA); return __atomic_fetch_nand(a, v, 5); } \
-    int __tsan_atomic##N##_compare_exchange_strong(volatile T *a, T *c, T v, int o, int f) \
-    { \
-        note(UPDATE, N / 8, a, RA); \
-        return __atomic_compare_exchange_n(a, c, v, 0, 5, 5); \
-    } \
-    int __tsan_atomic##N##_compare_exchange_weak(volatile T *a, T *c, T v, int o, int f) \
-    { \
-        note(UPDATE, N / 8, a, RA); \
-        return __atomic_compare_exchange_n(a, c, v, 0, 5, 5); \
-    } \
+    FETCH(N, T, add) FETCH(N, T, sub) FETCH(N, T, and) FETCH(N, T, or) FETCH(N, T, xor) FETCH(N, T, nand) COMPARE(N, T, strong) COMPARE(N, T, weak) \
     T __tsan_atomic##N##_compare_exchange_val(volatile T *a, T c, T v, int o, int f) \
     { \
         note(UPDATE, N / 8, a, RA); \

@@ -26,7 +26,6 @@ struct Run {
     unsigned number, open; // open: lanes that haven't ended
     bool closed;           // the root goes on in another folder
     Node root;
-    uint64_t records;
     atomic_uint tasks, segments, why;
     atomic_ullong bytes;
 };
@@ -36,7 +35,6 @@ static Run *now;
 static uint64_t roll, ahead;
 static unsigned *waiting, waiting_count; // folders that had an index when it was last looked
 static unsigned folders, unsealed;
-static uint64_t all_tasks, all_records, all_segments;
 static atomic_ullong all_lost;
 
 // ---- Files ----
@@ -187,17 +185,13 @@ static bool write_index(Run *run)
 // The run's end, with the gate held.
 static void seal(Run *run)
 {
-    unsigned why = atomic_load(&run->why), may_lack = atomic_load(&partial) ? 1u << WHY_LONG | 1u << WHY_MANY_MUTEXES : 0;
-    bool good = !lost_for_good() && !(why & ~may_lack);
+    bool good = !lost_for_good() && !atomic_load(&run->why);
     if (good && !(write_root(run) && write_index(run))) {
         cannot(NULL, WHY_FILES);
         good = false;
     }
     if (!good && ++unsealed == MANY_UNSEALED) cannot(NULL, WHY_UNSEALED);
     if (good && ahead) waiting[waiting_count++] = run->number;
-    all_tasks += atomic_load(&run->tasks);
-    all_segments += atomic_load(&run->segments);
-    all_records += run->records + run->root.records;
     free_node(&run->root);
     free(run);
 }
@@ -330,7 +324,6 @@ void end_log(Task *t)
     atomic_fetch_add_explicit(&all_lost, t->lost, memory_order_relaxed);
     t->lost = 0;
     close_gate();
-    run->records += t->written;
     if (!--run->open && run->closed) seal(run);
     t->part = NULL;
     open_gate();
@@ -366,11 +359,7 @@ void folder_end(bool within)
     uint64_t lost = atomic_load(&all_lost);
     if (lost) say("%llu accesses aren't in the logs", (unsigned long long)lost);
     if (unsealed) say("%u of %u folders aren't recorded whole and have no index", unsealed, folders);
-    else if (lost) say("the run isn't recorded whole, and what is missing may race");
     if (folders > 1 && !ahead) say("%u folders, to be checked one by one: %s, and from %s.1 on", folders, folder, folder);
-    if (getenv("SWORDREC_TELL"))
-        say("folders %u tasks %llu records %llu segments %llu", folders, (unsigned long long)all_tasks, (unsigned long long)all_records,
-            (unsigned long long)all_segments);
     folder_name(name, 0, ".end");
     int n = snprintf(text, sizeof text, "folders %u\n", folders);
     if (!write_file(name, true, (unsigned char *)text, n)) say("%s can't be written", name);

@@ -35,6 +35,7 @@ static char *files[FILES];
 static bool file_used[FILES];
 static unsigned files_count;
 uint64_t text_low, text_length;
+atomic_ullong quick_length;
 _Atomic uint64_t *places;
 static struct {
     _Atomic uint64_t address, place;
@@ -193,6 +194,7 @@ void lines_start(void)
     dl_iterate_phdr(find_text, NULL);
     places = mmap(NULL, text_length * 8, PROT_READ | PROT_WRITE, MAP_PRIVATE | MAP_ANONYMOUS | MAP_NORESERVE, -1, 0);
     if (places == MAP_FAILED) text_length = 0; // then all are others
+    atomic_store(&quick_length, text_length);
 }
 
 // Tells which lines are of which files, if there is more than the first.

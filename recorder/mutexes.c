@@ -29,55 +29,57 @@ void choose_epoch(Task *t)
     Set *set = NULL;
     for (unsigned i = 0; i < sets && !set; i++) {
         unsigned k = 0;
-        while (k < n && t->set[i].mutex[k] == t->mutex[k]) k++;
+        while (k < n && t->set[i].mutex[k] == t->hold[k].mutex) k++;
         if (t->set[i].count == n && k == n) set = &t->set[i];
     }
     if (!set) {
         set = &t->set[t->sets++ % SETS];
         set->count = n;
-        for (unsigned k = 0; k < n; k++) set->mutex[k] = t->mutex[k];
+        for (unsigned k = 0; k < n; k++) set->mutex[k] = t->hold[k].mutex;
         set->epoch = ++me->epochs;
     }
-    t->epoch = set->epoch;
+    t->low = set->epoch << 32;
     t->high = set->epoch >> 32 << 48;
+    t->spread = hash(set->epoch) >> 32;
 }
 
 void drop_locks(Task *t, unsigned to)
 {
     while (t->logged > to) {
         t->logged--;
-        put_mark(t, UNLOCK, t->in_log_line[t->logged], t->in_log[t->logged], 0);
+        put_mark(t, UNLOCK, t->in_log[t->logged].line, t->in_log[t->logged].mutex, 0);
     }
 }
 
 void log_locks(Task *t)
 {
     unsigned same = 0, n = t->held < HELD ? t->held : HELD;
-    while (same < n && same < t->logged && t->mutex[same] == t->in_log[same]) same++;
+    while (same < n && same < t->logged && t->hold[same].mutex == t->in_log[same].mutex) same++;
     drop_locks(t, same);
     for (; t->logged < n; t->logged++) {
-        t->in_log[t->logged] = t->mutex[t->logged];
-        t->in_log_line[t->logged] = t->mutex_line[t->logged];
-        put_mark(t, LOCK, t->mutex_line[t->logged], t->mutex[t->logged], 0);
+        t->in_log[t->logged] = t->hold[t->logged];
+        put_mark(t, LOCK, t->in_log[t->logged].line, t->in_log[t->logged].mutex, 0);
     }
 }
 
 // ---- Numbers ----
 
+// The slot of an id, or the empty one where it would stand.
+static unsigned slot_of(uint64_t id)
+{
+    unsigned i = hash(id) >> 47;
+    for (uint64_t there; (there = atomic_load_explicit(&slots[i].id, memory_order_acquire)) && there != id;) i = (i + 1) % SLOTS;
+    return i;
+}
+
 // 0 if there is none left.
 static unsigned find_number(uint64_t id)
 {
-    unsigned i = hash(id) >> 47;
-    for (uint64_t there; (there = atomic_load_explicit(&slots[i].id, memory_order_acquire)); i = (i + 1) % SLOTS)
-        if (there == id) {
-            unsigned number = atomic_load_explicit(&slots[i].number, memory_order_relaxed);
-            if (number) return number;
-            break;
-        }
+    unsigned i = slot_of(id), number = atomic_load_explicit(&slots[i].number, memory_order_relaxed);
+    if (number && slots[i].id == id) return number;
     close_gate();
-    i = hash(id) >> 47;
-    while (slots[i].id && slots[i].id != id) i = (i + 1) % SLOTS;
-    unsigned number = slots[i].number;
+    i = slot_of(id);
+    number = slots[i].number;
     if (!number && numbers < MUTEXES && (slots[i].id || used < SLOTS / 2)) {
         number = numbers++;
         if (!slots[i].id) slot_used[used++] = i;
@@ -91,8 +93,7 @@ static unsigned find_number(uint64_t id)
 static void forget(uint64_t id)
 {
     close_gate();
-    unsigned i = hash(id) >> 47;
-    while (slots[i].id && slots[i].id != id) i = (i + 1) % SLOTS;
+    unsigned i = slot_of(id);
     if (slots[i].id) atomic_store_explicit(&slots[i].number, 0, memory_order_relaxed);
     open_gate();
 }
@@ -112,33 +113,32 @@ void mutexes_forget(void)
 
 // ---- Holding ----
 
+static unsigned place_of_hold(const Task *t, unsigned number)
+{
+    unsigned i = 0;
+    while (i < t->held && t->hold[i].mutex != number) i++;
+    return i;
+}
+
 static void hold(Task *t, unsigned number, uint32_t line)
 {
-    for (unsigned i = 0; i < t->held; i++)
-        if (t->mutex[i] == number) {
-            t->times[i]++;
-            return;
-        }
-    if (t->held >= HELD) cannot(t, WHY_MANY_MUTEXES);
-    if (t->held == HOLDS) return;
-    t->mutex[t->held] = number;
-    t->times[t->held] = 1;
-    t->mutex_line[t->held++] = line;
+    unsigned i = place_of_hold(t, number);
+    if (i < t->held) {
+        t->hold[i].times++;
+        return;
+    }
+    if (i >= HELD) cannot(t, WHY_MANY_MUTEXES);
+    if (i == HOLDS) return;
+    t->hold[t->held++] = (Hold){number, 1, line};
     t->pending |= NEW_LOCKS;
     choose_epoch(t);
 }
 
 static void let_go(Task *t, unsigned number)
 {
-    unsigned i = 0;
-    while (i < t->held && t->mutex[i] != number) i++;
-    if (i == t->held || --t->times[i]) return;
-    for (i++; i < t->held; i++) {
-        t->mutex[i - 1] = t->mutex[i];
-        t->times[i - 1] = t->times[i];
-        t->mutex_line[i - 1] = t->mutex_line[i];
-    }
-    t->held--;
+    unsigned i = place_of_hold(t, number);
+    if (i == t->held || --t->hold[i].times) return;
+    for (t->held--; i < t->held; i++) t->hold[i] = t->hold[i + 1];
     t->pending |= NEW_LOCKS;
     choose_epoch(t);
 }

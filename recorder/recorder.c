@@ -8,10 +8,9 @@
 #include <stdio.h>
 
 pthread_mutex_t gate = PTHREAD_MUTEX_INITIALIZER;
-atomic_bool partial;
 static bool found, started, child; // found: the runtime asked for the tool
 static atomic_bool over;
-static atomic_uint lost, told, notes; // bits: whys for good, whys of some folder, notes
+static atomic_uint lost, told; // bits: whys for good, and all whys
 static pid_t process;
 
 void say(const char *format, ...)
@@ -24,7 +23,7 @@ void say(const char *format, ...)
     fprintf(stderr, "swordrec: %s\n", text);
 }
 
-void note_that(unsigned note) { atomic_fetch_or_explicit(&notes, 1u << note, memory_order_relaxed); }
+void tell_of(unsigned why) { atomic_fetch_or_explicit(&told, 1u << why, memory_order_relaxed); }
 
 // Asked at each fork of the root, too: so a child process that forks a team is told of.
 bool lost_for_good(void)
@@ -38,7 +37,7 @@ bool lost_for_good(void)
 
 void cannot(Task *t, unsigned why)
 {
-    atomic_fetch_or_explicit(&told, 1u << why, memory_order_relaxed);
+    tell_of(why);
     if (t && t->part) fail_folder(t->part, why);
     else atomic_fetch_or_explicit(&lost, 1u << why, memory_order_relaxed);
 }
@@ -69,7 +68,6 @@ static void finish(void)
 {
 #define TEXT(name, text) text,
     static const char *const whys[] = {WHYS(TEXT)};
-    static const char *const noted[] = {NOTES(TEXT)};
 #undef TEXT
     if (!started || getpid() != process || atomic_exchange(&over, true)) return;
     cur = NULL;
@@ -78,8 +76,6 @@ static void finish(void)
     folder_end(within);
     for (unsigned i = 0; i < WHYS_COUNT; i++)
         if (atomic_load(&told) >> i & 1) say("%s", whys[i]);
-    for (unsigned i = 0; i < NOTES_COUNT; i++)
-        if (atomic_load(&notes) >> i & 1) say("%s", noted[i]);
     lines_tell();
 }
 
@@ -95,7 +91,6 @@ static void in_child(void)
 static int on_start(ompt_function_lookup_t look_up, int device, ompt_data_t *tool)
 {
     process = getpid();
-    atomic_store(&partial, getenv("SWORDREC_PARTIAL") != NULL);
     lines_start();
     reuse_start();
     found = true;

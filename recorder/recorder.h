@@ -18,7 +18,7 @@ enum { READ = 1, WRITE = 2, LOCK = 3, UNLOCK = 4, BARRIER = 5, REGION = 6, END =
 enum { RECORDS = 4194304, ROWS = 65536, SEGMENTS = 65536, LANES = 64, DEPTH = 4, HELD = 8, MUTEXES = 65536 };
 enum { RECORD = 24, HEADER = 8, BLOCK = 2730 * RECORD }; // bytes of a record, of a log's header and of a task's block
 
-// Why a folder gets no index.
+// What is told at the end: first why a folder has no index, and last what leaves it one, although pairs may be false.
 #define WHYS(WHY) \
     WHY(TASKS, "explicit tasks: the format has none") \
     WHY(LEAGUE, "teams: the format has no leagues") \
@@ -40,18 +40,12 @@ enum { RECORD = 24, HEADER = 8, BLOCK = 2730 * RECORD }; // bytes of a record, o
     WHY(LINES, "code whose line isn't known: compile all of it with recorder/swordcc (-g), and leave it uncompressed") \
     WHY(SKIPPED, "accesses that the compiler doesn't instrument, told when it compiled") \
     WHY(UNSEALED, "8 folders have no index: after these nothing was recorded") \
-    WHY(MEMORY, "out of memory")
+    WHY(MEMORY, "out of memory") \
+    WHY(LOCKED_FORK, "a lane forked a team while it held a mutex: that the team's lanes have it isn't in the logs, so their pairs may be false") \
+    WHY(DOACROSS, "order by depend(sink) or doacross isn't in the format, so pairs of such loops may be false")
 #define ONE_WHY(name, text) WHY_##name,
 enum { WHYS(ONE_WHY) WHYS_COUNT };
 #undef ONE_WHY
-
-// What is told and leaves the index: pairs of what is under it may be false.
-#define NOTES(NOTE) \
-    NOTE(LOCKED_FORK, "a lane forked a team while it held a mutex: that the team's lanes have it isn't in the logs, so their pairs may be false") \
-    NOTE(DOACROSS, "order by depend(sink) or doacross isn't in the format, so pairs of such loops may be false")
-#define ONE_NOTE(name, text) NOTE_##name,
-enum { NOTES(ONE_NOTE) NOTES_COUNT };
-#undef ONE_NOTE
 
 typedef struct Part Part;
 typedef struct Run Run;
@@ -75,9 +69,9 @@ struct Part {
 };
 
 // A place in the table of what was logged: 64 neighbours (bytes, or elements of 2, 4 or 8) as one line accesses them in one interval, with one size
-// and set of mutexes. A bit stands for each.
+// and set of mutexes. A bit stands for each; those of `writes` are in `any`, too.
 typedef struct {
-    uint64_t what, when, reads, writes;
+    uint64_t what, when, any, writes;
 } Seen;
 
 enum { SET_BITS = 15, SEEN = 2 << SET_BITS }; // of a thread's table of them: sets of two, the last used one first
@@ -89,6 +83,12 @@ typedef struct {
     uint16_t mutex[HELD];
 } Set;
 
+// A mutex that is held, and how often its thread acquired it.
+typedef struct {
+    uint16_t mutex, times;
+    uint32_t line;
+} Hold;
+
 enum { SETS = 8, HOLDS = 64 };
 enum { NEW_SEGMENT = 1, NEW_LOCKS = 2, FOREIGN = 4 };
 
@@ -98,7 +98,8 @@ struct Task {
     unsigned char *since;    // the first record after the last one that isn't an access
     Seen *seen;              // its thread's
     unsigned pending;        // what must be done before an access is logged
-    uint64_t epoch, high;    // the interval's and set's number, and its upper bits as the table has them
+    uint64_t low, high;      // the number of the interval and set, as the table has it: lower and upper bits
+    uint32_t spread;         // and where in the table
     unsigned char *block;
     uint32_t written; // records that are in the file
     uint32_t barriers, barrier_line;
@@ -107,16 +108,12 @@ struct Task {
     Part *part;
     Node *node;
     Task *outer, *next_free; // the lane that its thread was before; the next that can be used again
-    unsigned depth, lane, sets, held, logged;
+    unsigned depth, lane, sets, held, logged; // of `set`, `hold` and `in_log`
     bool pooled; // its thread's stack is named for it
     uint32_t step_region[DEPTH];
     uint16_t step_lane[DEPTH];
     Set set[SETS];
-    uint16_t in_log[HELD];
-    uint32_t in_log_line[HELD];
-    uint16_t mutex[HOLDS];
-    uint16_t times[HOLDS];
-    uint32_t mutex_line[HOLDS];
+    Hold in_log[HELD], hold[HOLDS];
 };
 
 // A thread that ran a lane. Only it touches what is here, but for `held` while no region runs.
@@ -134,7 +131,6 @@ typedef struct Thread {
 extern __thread Task *cur;      // whose accesses are logged now; NULL: nobody's
 extern __thread Thread *me;     // NULL before its first lane
 extern atomic_uint regions_now; // teams of the root that run
-extern atomic_bool partial;     // what can't be wrong but not whole gets an index
 
 static inline bool is_foreign(const Task *t) { return t && t->pending & FOREIGN; }
 static inline Task *lane_now(void) { return is_foreign(cur) ? NULL : cur; }
@@ -163,8 +159,8 @@ static inline void close_gate(void) { __real_pthread_mutex_lock(&gate); }
 static inline void open_gate(void) { __real_pthread_mutex_unlock(&gate); }
 
 // recorder.c
+void tell_of(unsigned why);
 void cannot(Task *t, unsigned why); // for the task's folder, or from now on if there is no task
-void note_that(unsigned note);
 bool lost_for_good(void);
 void say(const char *format, ...) __attribute__((format(printf, 1, 2)));
 uint64_t setting(const char *name, uint64_t least, uint64_t most, uint64_t otherwise);
@@ -182,6 +178,7 @@ static inline void spell(unsigned char *to, uint64_t head, uint64_t address, uin
 
 // lines.c: a place is site << 32 | line, as a record has it
 extern uint64_t text_low, text_length; // of the program's own code
+extern atomic_ullong quick_length;     // the same, or 0 while stacks have names
 extern _Atomic uint64_t *places;       // by address in it; 0: not asked yet
 void lines_start(void);
 void lines_tell(void);

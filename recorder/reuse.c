@@ -64,6 +64,7 @@ void release_all(void)
     close_gate();
     for (Thread *t = threads; t; t = t->next) release(&t->held);
     atomic_store(&stack_names, 0);
+    atomic_store(&quick_length, text_length);
     open_gate();
 }
 
@@ -221,6 +222,7 @@ void name_stack(void)
 {
     if (!me->stack && !enter_stack()) return;
     uint32_t name = atomic_fetch_add(&stack_names, 1) + 1;
+    atomic_store(&quick_length, 0);
     if (name >= 1u << NAME_BITS) cannot(NULL, WHY_STACKS);
     atomic_store_explicit(&me->stack->name, name, memory_order_relaxed);
 }

@@ -141,7 +141,7 @@ static void begin_lane(Team *team, ompt_data_t *data, unsigned span, unsigned la
     t->pooled = depth > 1 && lane > 0;
     if (t->pooled) name_stack();
     if (lane == 0 && above) {
-        if (above->held) note_that(NOTE_LOCKED_FORK);
+        if (above->held) tell_of(WHY_LOCKED_FORK);
         end_segment(above, REGION, team->line, span);
     }
     begin_log(t, part);
@@ -251,7 +251,7 @@ static void on_cancel(ompt_data_t *data, int flags, const void *ra) { cannot(tas
 static void on_dependences(ompt_data_t *data, const ompt_dependence_t *dependences, int count)
 {
     for (int i = 0; i < count; i++)
-        if (dependences[i].dependence_type == ompt_dependence_type_sink) note_that(NOTE_DOACROSS);
+        if (dependences[i].dependence_type == ompt_dependence_type_sink) tell_of(WHY_DOACROSS);
 }
 
 static void on_thread_end(ompt_data_t *data) { leave_thread(); }

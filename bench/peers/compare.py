@@ -2,7 +2,8 @@
 """Times `sword` beside Archer, Helgrind and DRD, and counts what each reports.
 
 The first table has three kernels and their racing twins, and the same loops in C: on a twin that races nothing is a missed race, and on the other
-one everything is a false report. The second has larger loops in C, recorded and checked, beside Archer.
+one everything is a false report. The second has larger loops in C and these three without a race, recorded and checked, beside Archer: what is
+recorded takes so many times its time, and recorded and checked together so many times.
 
 usage: compare.py SWORD [--runs N] [--grinds N] [--only small|large], anywhere. It needs Debian's packages clang-14, libomp-14-dev, llvm-14,
 libclang-rt-14-dev (Archer is part of LLVM's OpenMP runtime) and valgrind. A time is the least of N runs, 10 if not told, of `--grinds` runs under
@@ -41,15 +42,20 @@ def spent():
     return time.monotonic(), used.ru_utime + used.ru_stime
 
 
+class Seconds(tuple):
+    """By the clock, and of processors."""
+    def __str__(self):
+        return f"{self[0]:.3f} ({self[1]:.3f})" if self[0] < 0.1 else f"{self[0]:.2f} ({self[1]:.2f})"
+
+
 def tried(runs, ask):
-    """The least times of so many runs, as a text, and what each run answers."""
+    """The least times of so many runs, and what each run answers."""
     times, answers = [], []
     for _ in range(runs):
         before = spent()
         answers.append(ask())
         times.append([after - then for after, then in zip(spent(), before)])
-    clock, processors = map(min, zip(*times))
-    return f"{clock:.2f} ({processors:.2f})", answers
+    return Seconds(map(min, zip(*times))), answers
 
 
 class Tools:
@@ -100,13 +106,14 @@ class Tools:
         return tried(self.runs, lambda: output(["./plain"], self.place))[0]
 
     def archer(self, name, race, history=""):
+        """The times, and in how many runs it reported a race."""
         self.compile(["clang-14", *FLAGS, "-fsanitize=thread"], name, race, "archer")
         options = "ignore_noninstrumented_modules=1" + history
 
         def ask():
             return "WARNING: ThreadSanitizer: data race" in output(["./archer"], self.place, OMP_TOOL_LIBRARIES=ARCHER, TSAN_OPTIONS=options)
         seconds, answers = tried(self.runs, ask)
-        return f"{seconds}, {sum(answers)} of {self.runs}"
+        return seconds, f"{seconds}, {sum(answers)} of {self.runs}"
 
     def valgrind(self, tool, name, race):
         """The time, and the reports: those that begin in the program, and those that begin in the runtime or in the C library."""
@@ -124,18 +131,22 @@ def small(tools):
         for race in (False, True):
             seconds, checking, found, _, _ = tools.recorded(name, race)
             cells = [tools.kernel(name, race), f"{seconds} and {checking}, {found}"]
-            cells += [tools.archer(name, race), tools.archer(name, race, " history_size=7")]
+            cells += [tools.archer(name, race)[1], tools.archer(name, race, " history_size=7")[1]]
             cells += [tools.valgrind(tool, name, race) for tool in ("helgrind", "drd")]
             print(f"| {name}{', with a race' if race else ''} | " + " | ".join(cells) + " |", flush=True)
 
 
 def large(tools):
-    print("| Loop | alone | recorded | checked | pairs | records | MB | Archer | its longest history |\n|---|---|---|---|---|---|---|---|---|")
-    for name in LARGE:
-        seconds, checking, found, records, size = tools.recorded(name, False)
-        cells = [tools.plain(name), seconds, checking, str(found), f"{records:,}", f"{size:,.0f}"]
-        cells += [tools.archer(name, False), tools.archer(name, False, " history_size=7")]
-        print(f"| {name} | " + " | ".join(cells) + " |", flush=True)
+    print("| Loop | alone | recorded | checked | pairs | records | MB | Archer | its longest history | recorded | and checked |")
+    print("|---|---|---|---|---|---|---|---|---|---|---|")
+    for name in LARGE + SMALL:
+        recording, checking, found, records, size = tools.recorded(name, False)
+        archer, told = tools.archer(name, False)
+        both = [one + other for one, other in zip(recording, checking)]
+        ratios = ["{:.1f} ({:.1f})".format(*(ours / its for ours, its in zip(times, archer))) for times in (recording, both)]
+        cells = [tools.plain(name), recording, checking, found, f"{records:,}", f"{size:,.0f}", told]
+        cells += [tools.archer(name, False, " history_size=7")[1], *ratios]
+        print(f"| {name} | " + " | ".join(map(str, cells)) + " |", flush=True)
 
 
 def main():
