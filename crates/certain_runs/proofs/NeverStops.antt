@@ -1,5 +1,5 @@
 -- A kernel that `certify` calls certain doesn't stop.
-use Rattle.std.proofs.Common.{◌≡◌, ap, sym, ◌∙◌, subst, ◌⊎◌, inl, inr, ℕ, zero, suc, ◌<◌, ◌≤◌, List, [], ◌∷◌, ◌++◌, length, map, Some, refl, arith}
+use Rattle.std.proofs.Common.{◌≡◌, ap, sym, ◌∙◌, subst, ℕ, ◌<◌, ◌≤◌, List, [], ◌∷◌, ◌++◌, length, map, refl, arith}
 use Rattle.std.proofs.lemmas.List.{length-append, length-map}
 use Rattle.sw_base.specs.declared.path.Step.{Step}
 use Rattle.sw_base.specs.Environment.{Content}
@@ -7,7 +7,7 @@ use Rattle.race_model.specs.ForkJoin.{ListsTask}
 use Rattle.race_model.specs.Listing.{IsListing}
 use Rattle.race_model.specs.FirstBad.{row_of, rows_of}
 use Rattle.race_model.specs.IndexFault.{max_rows}
-use Rattle.race_model.specs.Trace.{TaskLog, Trace, logs_of}
+use Rattle.race_model.specs.Trace.{TaskLog, Trace}
 use Rattle.kernel_model.specs.declared.stop.StopWhy.{StopWhy}
 use Rattle.kernel_syntax.specs.Program.{Program}
 use Rattle.kernel_model.specs.Folder.{paths_of}

@@ -17,7 +17,7 @@ use Rattle.log_format.specs.Table.{IsTabled}
 use Rattle.log_format.proofs.Logs.{log_bytes-append}
 use Rattle.race_model.specs.BadPlace.{too_many_segments}
 use Rattle.race_model.specs.FirstBad.{HoldsTrace, HoldsLogs, IsBad, IsOneTooMany, row_of, rows_of, segments_in}
-use Rattle.race_model.specs.LogFault.{IsRecord, IsWholeLog, OpensTooMany, max_segments}
+use Rattle.race_model.specs.LogFault.{IsRecord, IsWholeLog, max_segments}
 use Rattle.race_model.specs.Row.{Row}
 use Rattle.race_model.specs.Segment.{segment_count}
 use Rattle.race_model.specs.Trace.{TaskLog, Trace}
