@@ -4,12 +4,10 @@ use Rattle.sw_base.specs.Environment.{Content}
 use Rattle.kernel_syntax.specs.Program.{Program}
 use Rattle.kernel_file.specs.Due.{no_kernel, of_kernel, refused_kernel}
 use Rattle.kernel_file.specs.Holding.{HoldsKernel}
-use Rattle.execution_model.specs.Elements.{layout_of}
 use Rattle.command_answer.specs.declared.status.TheConstants.{DONE}
 use Rattle.run_command.specs.Run.{RunDue}
 use Rattle.command_answer.specs.RunTexts.{run_text}
 use Rattle.certain_runs.specs.CertainRun.{IsCertainRun}
-use Rattle.serial_laws.proofs.Certainty.{is_listed}
 use Rattle.certify.specs.Verdicts.{HasCertainRun, Tells}
 use Rattle.certify.specs.declared.verdict.Verdict.{Verdict}
 use Rattle.certify.specs.declared.verdict.Verdict.TheVariants as verdict
@@ -22,7 +20,7 @@ module _ (rose : Type 0) (kernel dir : List ℕ) (size : ℕ) (old new : Content
       → answer ≡ codes "certain\n" ++ run_text count records program.arrays words → RunsAsCertified kernel dir size old new answer text
   of_certain program count records words holds has printed =
       let c : IsCertainRun program has.tasks words =
-      record { certain = has.certain; listed = is_listed program (layout_of program.arrays) has.tasks words has.runs.run; ends = has.ends; all = has.runs.run.all } in
+      record { certain = has.certain; listed = has.runs.listed; ends = has.runs.history.legal; all = has.runs.all } in
       let left = leaves_certain_run rose kernel dir size old new text program holds has.tasks words c status due ended in
       record {
         program = program;

@@ -1,5 +1,5 @@
 -- A kernel that `certify` calls certain doesn't stop.
-use Rattle.std.proofs.Common.{◌≡◌, ap, sym, ◌∙◌, subst, ◌⊎◌, inl, inr, ℕ, zero, suc, ◌<◌, ◌≤◌, List, [], ◌∷◌, ◌++◌, length, map, Some, refl, arith}
+use Rattle.std.proofs.Common.{◌≡◌, ap, sym, ◌∙◌, subst, ℕ, ◌<◌, ◌≤◌, List, [], ◌∷◌, ◌++◌, length, map, refl, arith}
 use Rattle.std.proofs.lemmas.List.{length-append, length-map}
 use Rattle.sw_base.specs.declared.path.Step.{Step}
 use Rattle.sw_base.specs.Environment.{Content}
@@ -7,29 +7,22 @@ use Rattle.race_model.specs.ForkJoin.{ListsTask}
 use Rattle.race_model.specs.Listing.{IsListing}
 use Rattle.race_model.specs.FirstBad.{row_of, rows_of}
 use Rattle.race_model.specs.IndexFault.{max_rows}
-use Rattle.race_model.specs.Trace.{TaskLog, Trace, logs_of}
+use Rattle.race_model.specs.Trace.{TaskLog, Trace}
 use Rattle.kernel_model.specs.declared.stop.StopWhy.{StopWhy}
 use Rattle.kernel_syntax.specs.Program.{Program}
 use Rattle.kernel_model.specs.Folder.{paths_of}
 use Rattle.kernel_model.specs.Lawful.{IsLawful}
-use Rattle.kernel_model.specs.declared.stop.StopWhy.TheVariants as because
-use Rattle.kernel_model.specs.Trace.{Stopped}
 use Rattle.kernel_file.specs.Due.{KernelDue, no_kernel, of_kernel, refused_kernel}
 use Rattle.kernel_file.specs.Holding.{HoldsKernel}
 use Rattle.kernel_laws.proofs.Lawfulness.{kernels_are_lawful}
 use Rattle.log_walk.proofs.RowOrder.{PathBefore, path_trans, path_irreflexive, listing_sorted}
-use Rattle.execution_model.specs.Elements.{element_address, layout_of}
+use Rattle.execution_model.specs.Elements.{element_address}
 use Rattle.execution_model.specs.Execution.{IsExecution}
 use Rattle.certainty_model.specs.Certain.{IsCertain}
 use Rattle.certainty_model.proofs.CertainRuns.{of_execution, begins_run, never_stops}
 use Rattle.certainty_model.proofs.WholeRuns.{starts_listed}
-use Rattle.lane_runner.specs.declared.stop.Stop.{Stop}
-use Rattle.lane_runner.specs.declared.stop.Stop.TheVariants as stop
-use Rattle.region_runner.specs.Answer.{StopsIn}
 use Rattle.command_answer.specs.declared.status.TheConstants.{DONE, KERNEL_STOPPED}
-use Rattle.run_command.specs.Run.{IsCrowded, RunAnswer, RunDue, StoppedRun, ended_so, index_there, stopped_so}
-use Rattle.run_command.specs.Told.{told_stop}
-use Rattle.serial_laws.proofs.Certainty.{is_listed}
+use Rattle.run_command.specs.Run.{IsCrowded, RunAnswer, RunDue, StoppedRun, StopsAt, as_traced, crowded, ended_so, index_there, stopped_so}
 use Rattle.certify.specs.Verdicts.{HasCertainRun, Tells}
 use Rattle.certify.specs.declared.verdict.Verdict.{Verdict}
 use Rattle.certify.specs.declared.verdict.Verdict.TheVariants as verdict
@@ -58,25 +51,18 @@ module _ (program : Program) (lawful : IsLawful program) (run : Trace) (certain 
       let parts : length (paths_of tasks) ≡ length (c.before ++ path ∷ (c.below ++ c.after)) = ap (λ (ps : List (List Step)). length ps) c.parts in
       omega (arith, c.many, many_parts c.before c.below c.after path, parts, no_more, limit, length-map run (λ (task : TaskLog). task.path), length-map run row_of)
 
-  no_stop : (path : List Step) (why : Stop) (line : ℕ) (reason : StopWhy) → told_stop why ≡ Some (line, reason) → StopsIn program tasks path why
-      → ((at : ℕ) → why ≡ stop.Tasks at → IsCrowded path (paths_of tasks)) → ⊥
-  no_stop path (stop.DivZero at) line reason told s crowded = let e = s.traced (Stopped because.DivZero at) refl in
-      never_stops program lawful run certain tasks (of_execution program tasks (element_address program.arrays) words execution) path e.start because.DivZero at e.listed e.starts e.traced
-  no_stop path (stop.Index at) line reason told s crowded = let e = s.traced (Stopped because.Index at) refl in
-      never_stops program lawful run certain tasks (of_execution program tasks (element_address program.arrays) words execution) path e.start because.Index at e.listed e.starts e.traced
-  no_stop path (stop.LogFull at) line reason told s crowded = let e = s.traced (Stopped because.LogFull at) refl in
-      never_stops program lawful run certain tasks (of_execution program tasks (element_address program.arrays) words execution) path e.start because.LogFull at e.listed e.starts e.traced
-  no_stop path (stop.Tasks at) line reason told s crowded = not_crowded path (crowded at refl)
-  no_stop path (stop.Trouble trouble) line reason told s crowded = absurd cc
+  no_stop : (path : List Step) (line : ℕ) (reason : StopWhy) → StopsAt program tasks path line reason → ⊥
+  no_stop path line reason (as_traced _ _ e) = never_stops program lawful run certain tasks (of_execution program tasks (element_address program.arrays) words execution) path e.start reason line e.listed e.starts e.traced
+  no_stop path line _ (crowded _ _ many) = not_crowded path many
 
 module _ (rose : Type 0) (kernel dir : List ℕ) (size : ℕ) (old new : Content) (told status : ℕ) (answer text : List ℕ) (done : told ≡ DONE) (due : RunDue rose kernel dir size old new status text) (ended : status ≡ KERNEL_STOPPED) where
   stopped : (program p : Program) (count records : ℕ) (words : List ℕ) → IsLawful program → HasCertainRun program count records words → (path : List Step) (line : ℕ) (reason : StopWhy)
       → StoppedRun rose kernel dir size old new p path line reason → program ≡ p → ⊥
   stopped program p count records words lawful has path line reason s same =
       let x = s.stopped in
-      no_stop program lawful has.tasks has.certain (is_listed program (layout_of program.arrays) has.tasks words has.runs.run) has.compared.holds.index.rows_are.limit
+      no_stop program lawful has.tasks has.certain has.runs.listed (omega (arith, has.runs.few, length-map has.tasks row_of))
       x.tasks x.words (subst (λ (q : Program). IsExecution q x.tasks (element_address q.arrays) x.words) (sym same) x.execution) x.listed
-      path x.why line reason x.told (subst (λ (q : Program). StopsIn q x.tasks path x.why) (sym same) x.stops) x.crowded
+      path line reason (subst (λ (q : Program). StopsAt q x.tasks path line reason) (sym same) x.stops)
 
   of_certain : (program : Program) (count records : ℕ) (words : List ℕ) → HoldsKernel old.held kernel program → HasCertainRun program count records words → ⊥
   of_certain program count records words holds has = by due.due

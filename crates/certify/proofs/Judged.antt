@@ -1,5 +1,5 @@
 -- What the folder of a serial run tells of its kernel.
-use Rattle.std.proofs.Common.{◌≡◌, ◌≢◌, ◌≤◌, ℕ, ◌+◌, List, [], ◌∷◌, map, length, Option, Some, refl, sym, ap, subst, ◌∙◌, arith}
+use Rattle.std.proofs.Common.{◌≡◌, ◌≤◌, ℕ, ◌+◌, List, [], ◌∷◌, map, length, Option, refl, sym, ap, subst, ◌∙◌, arith}
 use Rattle.std.specs.Prelude.{Contains, sum_by}
 use Rattle.std.proofs.lemmas.List.{length-map}
 use Rattle.std.proofs.lemmas.List.Sums.{sum_by-cons}
@@ -7,7 +7,9 @@ use Rattle.sw_base.specs.declared.path.Step.{Step}
 use Rattle.sw_base.specs.Environment.{Content}
 use Rattle.log_format.specs.declared.format.TheConstants.{FORMAT}
 use Rattle.race_model.specs.BadPlace.{too_many_segments}
+use Rattle.race_model.specs.FirstBad.{segments_in}
 use Rattle.race_model.specs.KeepsRules.{KeepsRules}
+use Rattle.race_model.specs.LogFault.{max_segments}
 use Rattle.race_model.specs.Race.{IsRacePair, Lists}
 use Rattle.race_model.specs.Trace.{TaskLog, Trace, logs_of}
 use Rattle.race_laws.proofs.FolderTrace.{trace_once}
@@ -18,11 +20,13 @@ use Rattle.folder_races.specs.Pairs.{AreFolderPairs}
 use Rattle.serial_team.specs.Members.{WholeLog}
 use Rattle.serial_team.specs.Running.{DidRoot}
 use Rattle.serial_laws.specs.SerialRuns.{spelled}
-use Rattle.serial_laws.proofs.Certainty.{is_certain, is_ended, keeps_rules}
+use Rattle.serial_laws.proofs.Certainty.{is_certain, is_ended, is_listed, is_run, keeps_rules}
 use Rattle.certainty_model.specs.Certain.{IsCertain}
 use Rattle.certainty_model.proofs.CertainRuns.{only_run}
 use Rattle.certify.specs.Holding.{HoldsTasks, KeepRules}
-use Rattle.certify.specs.Verdicts.{AreCompared, HasCertainRun, HasRaces, OpensOneTooMany, RunSpells, RunsTo, element_layout, record_total}
+use Rattle.certify.specs.Verdicts.{HasCertainRun, HasRaces, OpensOneTooMany, RunSpells, RunsTo, element_layout, record_total}
+use Rattle.certify.proofs.FewSegments.{few_segments}
+use Rattle.certify.proofs.TooMany.{opens_the_first}
 use Rattle.certify.specs.declared.certifying.TheConstants.{MOST_RECORDS}
 
 counts_spelled : (tasks : Trace) → sum_by (λ (log : WholeLog). log.count) (map spelled tasks) ≡ record_total tasks
@@ -51,7 +55,11 @@ module _ (program : Program) (logs : List WholeLog) (words : List ℕ) (r : RunS
   runs : RunsTo program tasks words
   runs = record {
     fixed = r.fixed;
-    run = r.run.run;
+    traced = (is_run program (layout_of program.arrays) tasks words r.run.run).traced;
+    listed = is_listed program (layout_of program.arrays) tasks words r.run.run;
+    history = is_ended program (layout_of program.arrays) tasks words r.run.run;
+    all = r.run.run.all;
+    few = r.run.few;
     ran = subst (λ (ls : List WholeLog). DidRoot (element_layout program) program MOST_RECORDS ls words) r.run.logs_are r.ran;
   }
 
@@ -62,12 +70,12 @@ module _ (program : Program) (logs : List WholeLog) (words : List ℕ) (r : RunS
         subst (λ (trace : Trace). Lists (IsRacePair (logs_of trace)) pairs)
         (trace_once held.content.held dir found.trace tasks (found.holds held.content held.is) (held.holds tasks r.run.logs_are rules)) found.races
 
-    -- so its tasks are compared
-    are_compared : (pairs : List (ℕ × ℕ)) → AreFolderPairs told dir pairs → AreCompared tasks
-    are_compared pairs found = record { files = held.content.held; dir = dir; holds = held.holds tasks r.run.logs_are rules; well_formed = found.well_formed held.content held.is }
+    -- so its records are compared
+    few : (pairs : List (ℕ × ℕ)) → AreFolderPairs told dir pairs → segments_in tasks ≤ max_segments
+    few pairs found = few_segments held.content.held dir tasks (held.holds tasks r.run.logs_are rules) (found.well_formed held.content held.is)
 
     pub has_races : (pairs : List (ℕ × ℕ)) → AreFolderPairs told dir pairs → (length pairs ≡ 0 → ⊥) → HasRaces program pairs
-    has_races pairs found some = record { tasks = tasks; words = words; runs = runs; compared = are_compared pairs found; races = races pairs found; some = λ none. some (ap length none) }
+    has_races pairs found some = record { tasks = tasks; words = words; runs = runs; compared = few pairs found; races = races pairs found; some = λ none. some (ap length none) }
 
     pub has_certain_run : (pairs : List (ℕ × ℕ)) (n m : ℕ) → AreFolderPairs told dir pairs → length pairs ≡ 0 → n ≡ length logs → m ≡ sum_by (λ (log : WholeLog). log.count) logs
         → HasCertainRun program n m words
@@ -75,10 +83,9 @@ module _ (program : Program) (logs : List WholeLog) (words : List ℕ) (r : RunS
     has_certain_run pairs n m found none count_is sum_is = record {
       tasks = tasks;
       runs = runs;
-      compared = are_compared pairs found;
+      compared = few pairs found;
       certain = certain;
       only = λ other is_run. only_run program r.lawful tasks certain other is_run;
-      ends = is_ended program (layout_of program.arrays) tasks words r.run.run;
       count_is = count_is ∙ (ap length r.run.logs_are ∙ length-map tasks spelled);
       records_are = sum_is ∙ count;
     }
@@ -94,8 +101,5 @@ module _ (program : Program) (logs : List WholeLog) (words : List ℕ) (r : RunS
       tasks = tasks;
       words = words;
       runs = runs;
-      files = held.content.held;
-      dir = dir;
-      holds = held.holds tasks r.run.logs_are rules;
-      first = first;
+      first = opens_the_first tasks held.content.held dir (held.holds tasks r.run.logs_are rules) path number first;
     }

@@ -1,7 +1,9 @@
 pub mod Fixed
-pub mod FirstLines
+pub mod FewSegments
+mod FirstLines
 pub mod StmtLines
 mod Putting
 mod HeldRuns
 pub mod Layouts
 mod Judged
+pub mod TooMany

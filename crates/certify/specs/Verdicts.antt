@@ -1,21 +1,21 @@
 -- What a verdict tells of a kernel.
-use Rattle.std.specs.Prelude.{◌≡◌, ◌≢◌, ℕ, List, [], map, length, sum_by, slice_get, Some}
+use Rattle.std.specs.Prelude.{◌≡◌, ◌≢◌, ℕ, ◌+◌, ◌<◌, ◌≤◌, List, [], map, length, sum_by, take, slice_get, Some}
 use Rattle.sw_base.specs.declared.path.Step.{Step}
-use Rattle.sw_base.specs.Environment.{Files}
-use Rattle.log_format.specs.declared.format.TheConstants.{FORMAT}
-use Rattle.race_model.specs.BadPlace.{too_many_segments}
-use Rattle.race_model.specs.FirstBad.{HoldsTrace}
-use Rattle.race_model.specs.History.{HasLegalHistory}
+use Rattle.race_model.specs.FirstBad.{segments_in}
+use Rattle.race_model.specs.IndexFault.{max_rows}
+use Rattle.race_model.specs.Listing.{IsListing}
+use Rattle.race_model.specs.LogFault.{max_segments}
 use Rattle.race_model.specs.Race.{IsRacePair, Lists}
+use Rattle.race_model.specs.Segment.{segment_count}
 use Rattle.race_model.specs.Trace.{TaskLog, Trace, logs_of}
-use Rattle.race_model.specs.WellFormed.{IsWellFormed}
-use Rattle.log_walk.specs.Walk.{IsFirstIn}
 use Rattle.kernel_syntax.specs.Layout.{elements}
 use Rattle.kernel_syntax.specs.Program.{Program}
+use Rattle.kernel_model.specs.Folder.{IsTracedFolder, paths_of}
 use Rattle.kernel_model.specs.Lawful.{IsLawful}
 use Rattle.certainty_model.specs.Certain.{AreSame, IsCertain, IsFixed, IsRun}
 use Rattle.certify.specs.Constructs.{construct_lines}
-use Rattle.serial_laws.specs.SerialRuns.{IsSerialRun, LogsSerialRun, spelled}
+use Rattle.serial_model.specs.Order.{HasSerialHistory}
+use Rattle.serial_laws.specs.SerialRuns.{LogsSerialRun, spelled}
 use Rattle.serial_run.specs.Placing.{OfLog, ElementLayout}
 use Rattle.serial_team.specs.Members.{WholeLog}
 use Rattle.serial_team.specs.Running.{DidRoot}
@@ -33,46 +33,53 @@ element_layout program = record { words = layout_of program.arrays; count = elem
 abbrev pub record_total : Trace → ℕ
 record_total tasks = sum_by (λ (task : TaskLog). length task.records) tasks
 
--- The serial run of the kernel, which is fixed, has these tasks, and ends with these words.
+-- The serial run of the kernel, which is fixed: these tasks are those of a whole run, in the order of an index, and a legal history of them in
+-- serial order ends with these words, one for each element. They are no more than an index has rows, and were run in memory, lane after lane,
+-- with room for so many records.
 pub record RunsTo (program : Program) (tasks : Trace) (words : List ℕ) : Type 0 where
   pub fixed : IsFixed program.main.body
-  pub run : IsSerialRun program (layout_of program.arrays) tasks words
+  pub traced : IsTracedFolder program tasks
+  pub listed : IsListing (paths_of tasks)
+  pub history : HasSerialHistory (logs_of tasks) (element_address program.arrays) words
+  pub all : length words ≡ elements program.arrays
+  pub few : length tasks ≤ max_rows
   pub ran : DidRoot (element_layout program) program MOST_RECORDS (map spelled tasks) words
 
--- a folder that holds these tasks is bad at no place, so that their records are compared
-pub record AreCompared (tasks : Trace) : Type 0 where
-  pub files : Files
-  pub dir : List ℕ
-  pub holds : HoldsTrace FORMAT files dir tasks
-  pub well_formed : IsWellFormed FORMAT files dir
+-- Counted over the logs in their order, this record of the log of the task at this path, from 1, opens the first barrier interval that is too many.
+pub record OpensTheFirst (tasks : Trace) (path : List Step) (number : ℕ) : Type 0 where
+  pub index : ℕ
+  pub task : TaskLog
+  pub listed : slice_get tasks index ≡ Some task
+  pub path_is : task.path ≡ path
+  pub place : ℕ
+  pub within : place < length task.records
+  pub number_is : number ≡ place + 1
+  pub full : segments_in (take index tasks) + segment_count (take place task.records) ≡ max_segments
+  pub opens : segment_count (take (place + 1) task.records) ≡ segment_count (take place task.records) + 1
 
--- its folder's first bad place is this record of this task, which opens one barrier interval too many
+-- it has more barrier intervals than are compared, and this record opens the first that is too many
 pub record OpensOneTooMany (program : Program) (path : List Step) (number : ℕ) : Type 0 where
   pub tasks : Trace
   pub words : List ℕ
   pub runs : RunsTo program tasks words
-  pub files : Files
-  pub dir : List ℕ
-  pub holds : HoldsTrace FORMAT files dir tasks
-  pub first : IsFirstIn FORMAT files dir path (λ row. too_many_segments row number)
+  pub first : OpensTheFirst tasks path number
 
 -- its race pairs are these, and there is one
 pub record HasRaces (program : Program) (pairs : List (ℕ × ℕ)) : Type 0 where
   pub tasks : Trace
   pub words : List ℕ
   pub runs : RunsTo program tasks words
-  pub compared : AreCompared tasks
+  pub compared : segments_in tasks ≤ max_segments
   pub races : Lists (IsRacePair (logs_of tasks)) pairs
   pub some : pairs ≢ []
 
--- It is the certain run of the kernel, every run is this one, it has so many tasks and records, and a legal history of it ends in these words.
+-- It is the certain run of the kernel, every run is this one, and it has so many tasks and records.
 pub record HasCertainRun (program : Program) (count records : ℕ) (words : List ℕ) : Type 0 where
   pub tasks : Trace
   pub runs : RunsTo program tasks words
-  pub compared : AreCompared tasks
+  pub compared : segments_in tasks ≤ max_segments
   pub certain : IsCertain program tasks
   pub only : (other : Trace) → IsRun program other → AreSame program tasks other
-  pub ends : HasLegalHistory (logs_of tasks) (element_address program.arrays) words
   pub count_is : count ≡ length tasks
   pub records_are : records ≡ record_total tasks
 

@@ -15,7 +15,7 @@ use Rattle.kernel_model.proofs.Steps.{kept-after}
 use Rattle.certainty_model.specs.Certain.{IsFixed}
 use Rattle.certainty_model.proofs.Pairs.{FixedFork, Own, with, Parting, Pair}
 use Rattle.certainty_model.proofs.FixedRuns.{run-pairs}
-use Rattle.certify_laws.proofs.Growing.{put_grows}
+use Rattle.serial_laws.proofs.Growing.{put_grows}
 
 -- both read one element, and its values differ
 pub record ReadApart (r q : Record) : Type 0 where

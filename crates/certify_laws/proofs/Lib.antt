@@ -1,6 +1,5 @@
 mod Doing
 mod GoAlike
-mod Growing
 mod Moving
 mod OneAnswer
 mod OneVerdict

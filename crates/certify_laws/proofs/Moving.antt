@@ -26,7 +26,6 @@ use Rattle.serial_run.specs.Placing.{Bound, OfLog, OfRun, ElementLayout}
 use Rattle.serial_run.specs.Stepping.{Stand, Leads, Adds, stand_left}
 use Rattle.certify_laws.proofs.GoAlike.{ReadApart, GoAlike, AreSized, alike_past, forks_fixed, traces_go_alike}
 use Rattle.serial_team.specs.Stopping.{bounded}
-use Rattle.certify_laws.proofs.Growing.{put_grows, rest_grows}
 use Rattle.certify_laws.proofs.Rooms.{GoesOn, IsWanting, Roomy, goes_past, put-roomy, rest-roomy, roomy}
 
 -- ---- records that find the words as they stand
@@ -204,9 +203,6 @@ stop_no_want m why line is wants = let e : Stopped why line ≡ Wanting = sym is
 -- a part that only adds records and regions
 abbrev pub IsGrowing : Part → Type 0
 IsGrowing part = (s : State) → Grows s (state_of (part s))
-
-pub left_grows : (x : Stand) → IsGrowing (stand_left x)
-left_grows x = rest_grows x.at x.rest (put (event kind.End x.end 0 0)) (λ s. put_grows (event kind.End x.end 0 0) s refl)
 
 pub nothing_grows : IsGrowing (λ s. Gives tt s)
 nothing_grows s = grows-plain.same s

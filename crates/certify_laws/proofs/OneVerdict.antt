@@ -1,20 +1,21 @@
 -- A kernel has one verdict.
-use Rattle.std.proofs.Common.{◌≡◌, ℕ, List, [], ◌∷◌, map, length, Some, refl, sym, ap, subst, ◌∙◌, arith}
-use Rattle.std.specs.Prelude.{Contains, slice_get}
-use Rattle.std.proofs.lemmas.List.Elements.{All-head, All-tail}
+use Rattle.std.proofs.Common.{◌≡◌, ℕ, ◌≤◌, List, [], ◌∷◌, map, length, Some, refl, sym, ap, subst, ◌∙◌, arith}
+use Rattle.std.specs.Prelude.{All, Contains, slice_get}
+use Rattle.std.proofs.lemmas.List.Elements.{All-head, All-tail, All-weaker}
 use Rattle.std.proofs.lemmas.Option.{same_Some}
 use Rattle.sw_base.specs.declared.path.Step.{Step}
-use Rattle.sw_base.specs.Environment.{Files}
 use Rattle.log_format.specs.declared.format.TheConstants.{FORMAT}
 use Rattle.log_format.specs.Format.{log_header}
+use Rattle.log_format.specs.Table.{IsTabled}
 use Rattle.log_format.proofs.Logs.{log_bytes-injective}
-use Rattle.race_model.specs.BadPlace.{too_many_segments}
-use Rattle.race_model.specs.FirstBad.{HoldsLogs, HoldsTrace}
-use Rattle.race_model.specs.LogFault.{IsWholeLog}
+use Rattle.race_model.specs.FirstBad.{segments_in}
+use Rattle.race_model.specs.KeepsRules.{TaskKeepsRules}
+use Rattle.race_model.specs.LogFault.{max_segments}
 use Rattle.race_model.specs.Race.{IsRacePair, Lists}
 use Rattle.race_model.specs.Trace.{TaskLog, Trace, logs_of}
 use Rattle.kernel_syntax.specs.Program.{Program}
 use Rattle.kernel_model.specs.Lawful.{IsLawful}
+use Rattle.kernel_rules.proofs.LawfulFolder.{folder_keeps}
 use Rattle.certainty_model.specs.Certain.{IsFixed}
 use Rattle.certify.proofs.Fixed.{have_none}
 use Rattle.certify.specs.Constructs.{construct_lines}
@@ -28,31 +29,30 @@ use Rattle.certify_laws.proofs.Root.{one_long, one_run, one_stop, run_or_long, r
 use Rattle.certify.specs.declared.certifying.TheConstants.{MOST_RECORDS}
 use Rattle.certify.specs.declared.verdict.Verdict.{Verdict}
 use Rattle.certify.specs.declared.verdict.Verdict.TheVariants as verdict
-use Rattle.certify.specs.Verdicts.{AreCompared, HasCertainRun, HasRaces, OpensOneTooMany, RunsTo, Tells, element_layout, record_total}
+use Rattle.certify.specs.Verdicts.{HasCertainRun, HasRaces, OpensOneTooMany, OpensTheFirst, RunsTo, Tells, element_layout, record_total}
 use Rattle.certify_laws.specs.Same.{SayTheSame}
-use Rattle.certify_laws.proofs.TooMany.{bad_there, same_first}
+use Rattle.certify_laws.proofs.TooMany.{not_few, same_first}
 
-abbrev IsWhole : Files → List ℕ → TaskLog → Type 0
-IsWhole files dir task = IsWholeLog FORMAT files dir task.path task.records
+abbrev AreTabled : TaskLog → Type 0
+AreTabled task = All (IsTabled FORMAT) task.records
 
--- logs that are the same are of the same tasks, whatever folders hold them
-module _ (files folder : Files) (dir at : List ℕ) where
-  task_once : (t u : TaskLog) → spelled u ≡ spelled t → IsWhole files dir t → IsWhole folder at u → u ≡ t
-  task_once t u same here there =
-      let path = ap (λ (log : WholeLog). log.path) same in
-      let records = log_bytes-injective (log_header FORMAT) u.records t.records there.tabled here.tabled (ap (λ (log : WholeLog). log.bytes) same) in
-      λ i. record { path = path i; records = records i }
+-- logs that are the same are of the same tasks, where their records are of the table
+task_once : (t u : TaskLog) → spelled u ≡ spelled t → AreTabled t → AreTabled u → u ≡ t
+task_once t u same here there =
+    let path = ap (λ (log : WholeLog). log.path) same in
+    let records = log_bytes-injective (log_header FORMAT) u.records t.records there here (ap (λ (log : WholeLog). log.bytes) same) in
+    λ i. record { path = path i; records = records i }
 
-  tasks_once : (ts us : Trace) → map spelled us ≡ map spelled ts → HoldsLogs FORMAT files dir ts → HoldsLogs FORMAT folder at us → us ≡ ts
-  tasks_once [] [] same here there = refl
-  tasks_once [] (u ∷ us) same here there = cc
-  tasks_once (t ∷ ts) [] same here there = cc
-  tasks_once (t ∷ ts) (u ∷ us) same here there =
-      let first : spelled u ≡ spelled t = cc in
-      let others : map spelled us ≡ map spelled ts = cc in
-      let head = task_once t u first (All-head (IsWhole files dir) t ts here) (All-head (IsWhole folder at) u us there) in
-      let tail = tasks_once ts us others (All-tail (IsWhole files dir) t ts here) (All-tail (IsWhole folder at) u us there) in
-      λ i. head i ∷ tail i
+tasks_once : (ts us : Trace) → map spelled us ≡ map spelled ts → All AreTabled ts → All AreTabled us → us ≡ ts
+tasks_once [] [] same here there = refl
+tasks_once [] (u ∷ us) same here there = cc
+tasks_once (t ∷ ts) [] same here there = cc
+tasks_once (t ∷ ts) (u ∷ us) same here there =
+    let first : spelled u ≡ spelled t = cc in
+    let others : map spelled us ≡ map spelled ts = cc in
+    let head = task_once t u first (All-head AreTabled t ts here) (All-head AreTabled u us there) in
+    let tail = tasks_once ts us others (All-tail AreTabled t ts here) (All-tail AreTabled u us there) in
+    λ i. head i ∷ tail i
 
 -- a fixed kernel has no construct
 no_construct : (program : Program) (line : ℕ) → slice_get (construct_lines program.main.body) 0 ≡ Some line → IsFixed program.main.body → ⊥
@@ -67,30 +67,28 @@ module _ (program : Program) (lawful : IsLawful program) where
   runs_once : (ts us : Trace) (words final : List ℕ) → RunsTo program ts words → RunsTo program us final → (map spelled us ≡ map spelled ts) × (final ≡ words)
   runs_once ts us words final a b = one_run layout refl program MOST_RECORDS a.fixed (map spelled ts) words a.ran (map spelled us) final b.ran
 
-  module _ (ts us : Trace) (words final : List ℕ) (a : RunsTo program ts words) (b : RunsTo program us final) (files folder : Files) (dir at : List ℕ)
-      (here : HoldsTrace FORMAT files dir ts) (there : HoldsTrace FORMAT folder at us) where
-    same_run : us ≡ ts
-    same_run = tasks_once files folder dir at ts us (runs_once ts us words final a b).0 here.logs there.logs
+  are_tabled : (ts : Trace) (words : List ℕ) → RunsTo program ts words → All AreTabled ts
+  are_tabled ts words a = All-weaker (TaskKeepsRules FORMAT ts) AreTabled (λ (task : TaskLog) keeps. keeps.tabled) ts (folder_keeps program lawful ts a.traced a.listed a.few).tasks
 
-    held_too : HoldsTrace FORMAT folder at ts
-    held_too = subst (λ (trace : Trace). HoldsTrace FORMAT folder at trace) same_run there
+  same_run : (ts us : Trace) (words final : List ℕ) → RunsTo program ts words → RunsTo program us final → us ≡ ts
+  same_run ts us words final a b = tasks_once ts us (runs_once ts us words final a b).0 (are_tabled ts words a) (are_tabled us final b)
 
   segments_once : (path other : List Step) (n m : ℕ) → OpensOneTooMany program path n → OpensOneTooMany program other m → (other ≡ path) × (m ≡ n)
   segments_once path other n m a b =
-      same_first FORMAT a.tasks a.files b.files a.dir b.dir a.holds (held_too a.tasks b.tasks a.words b.words a.runs b.runs a.files b.files a.dir b.dir a.holds b.holds) path other n m a.first b.first
+      same_first a.tasks path other n m a.first (subst (λ (trace : Trace). OpensTheFirst trace other m) (same_run a.tasks b.tasks a.words b.words a.runs b.runs) b.first)
 
-  segments_or_compared : (path : List Step) (n : ℕ) (tasks : Trace) (words : List ℕ) → OpensOneTooMany program path n → RunsTo program tasks words → AreCompared tasks → ⊥
-  segments_or_compared path n tasks words a runs c =
-      c.well_formed (too_many_segments a.first.row n) (bad_there FORMAT a.tasks a.files c.files a.dir c.dir a.holds (held_too a.tasks tasks a.words words a.runs runs a.files c.files a.dir c.dir a.holds c.holds) a.first.row n a.first.first.bad)
+  segments_or_compared : (path : List Step) (n : ℕ) (tasks : Trace) (words : List ℕ) → OpensOneTooMany program path n → RunsTo program tasks words → segments_in tasks ≤ max_segments → ⊥
+  segments_or_compared path n tasks words a runs few =
+      not_few a.tasks path n a.first (subst (λ (trace : Trace). segments_in trace ≤ max_segments) (same_run a.tasks tasks a.words words a.runs runs) few)
 
   races_once : (pairs others : List (ℕ × ℕ)) → HasRaces program pairs → HasRaces program others → others ≡ pairs
   races_once pairs others a b =
-      let same = same_run a.tasks b.tasks a.words b.words a.runs b.runs a.compared.files b.compared.files a.compared.dir b.compared.dir a.compared.holds b.compared.holds in
+      let same = same_run a.tasks b.tasks a.words b.words a.runs b.runs in
       one_list (IsRacePair (logs_of a.tasks)) others pairs (subst (λ (trace : Trace). Lists (IsRacePair (logs_of trace)) others) same b.races) a.races
 
   races_or_certain : (pairs : List (ℕ × ℕ)) (n m : ℕ) (words : List ℕ) → HasRaces program pairs → HasCertainRun program n m words → ⊥
   races_or_certain pairs n m words a b =
-      let same = same_run a.tasks b.tasks a.words words a.runs b.runs a.compared.files b.compared.files a.compared.dir b.compared.dir a.compared.holds b.compared.holds in
+      let same = same_run a.tasks b.tasks a.words words a.runs b.runs in
       a.some (none pairs (λ pair is. b.certain.no_race pair (subst (λ (trace : Trace). IsRacePair (logs_of trace) pair) (sym same) ((a.races.each pair).0 is))))
     where
       none : (pairs : List (ℕ × ℕ)) → ((pair : ℕ × ℕ) → Contains pairs pair → ⊥) → pairs ≡ []
@@ -99,7 +97,7 @@ module _ (program : Program) (lawful : IsLawful program) where
 
   certain_once : (n m k l : ℕ) (words final : List ℕ) → HasCertainRun program n m words → HasCertainRun program k l final → (k ≡ n) × (l ≡ m) × (final ≡ words)
   certain_once n m k l words final a b =
-      let same = same_run a.tasks b.tasks words final a.runs b.runs a.compared.files b.compared.files a.compared.dir b.compared.dir a.compared.holds b.compared.holds in (
+      let same = same_run a.tasks b.tasks words final a.runs b.runs in (
         b.count_is ∙ (ap (λ (trace : Trace). length trace) same ∙ sym a.count_is),
         b.records_are ∙ (ap (λ (trace : Trace). record_total trace) same ∙ sym a.records_are),
         (runs_once a.tasks b.tasks words final a.runs b.runs).1,

@@ -24,7 +24,7 @@ use Rattle.kernel_model.proofs.Steps.{Part, kept-and_then, kept-draws, kept-draw
 use Rattle.serial_run.specs.declared.frame.Frame.{Frame}
 use Rattle.serial_run.specs.declared.frame.Frame.TheVariants as frame
 use Rattle.serial_run.specs.Resting.{dealt_from, frame_part, frames_rest}
-use Rattle.certify_laws.proofs.Growing.{put_grows}
+use Rattle.serial_laws.proofs.Growing.{put_grows}
 
 -- the state with this room
 abbrev pub roomy : ℕ → State → State

@@ -144,7 +144,7 @@ least (s ∷ t ∷ above) step below is lane less = absurd (not_empty above belo
 
 pub stopped : AreStopped ⊥ kernel dir size logs (inner_path 1) 6 reason.DivZero
 stopped =
-    are_stopped kernel tasks words (inner_path 1) (stop.DivZero 6) (Stopped reason.DivZero 6) 6 reason.DivZero refl refl (λ at is. cc) (executes kernel tasks 2 work 0 0 same_tasks sound joined runs nests fitted history)
+    are_stopped kernel tasks words (inner_path 1) 6 reason.DivZero (λ is. cc) (executes kernel tasks 2 work 0 0 same_tasks sound joined runs nests fitted history)
     (record { root = Forks (Forks Ends (Lane Ends NoLane) Ends) (Lane Ends NoLane) Ends; lists = refl }) ends least
 
 -- ---- another lane

@@ -23,7 +23,6 @@ use Rattle.execution_model.specs.Runs.{RunsTask, RunsRegions, lane_begin, logged
 use Rattle.execution_laws.specs.Nesting.{NestsWithin}
 use Rattle.step_history.specs.History.{HasHistory}
 use Rattle.serial_model.proofs.Legal.{serial_history}
-use Rattle.lane_runner.specs.declared.stop.Stop.TheVariants as stop
 use Rattle.region_runner.specs.Answer.{EndsTask, IsLeast}
 use Rattle.run_command.specs.Run.{AreStopped}
 use Rattle.run_cases.specs.TwoLanes.{accessed, body, dir, first_log, kernel, team_path, logs, second_log, size, tasks, tasks_of}
@@ -103,7 +102,7 @@ least (s ∷ above) step below is lane less = absurd (not_empty above below step
 
 pub stopped : AreStopped ⊥ kernel dir size logs (team_path 0) 6 reason.Index
 stopped =
-    are_stopped kernel tasks words (team_path 0) (stop.Index 6) (Stopped reason.Index 6) 6 reason.Index refl refl (λ at is. cc) (executes kernel tasks 1 work 1 1 same_tasks sound joined runs nests fitted history)
+    are_stopped kernel tasks words (team_path 0) 6 reason.Index (λ is. cc) (executes kernel tasks 1 work 1 1 same_tasks sound joined runs nests fitted history)
     (record { root = Forks Ends (Lane Ends NoLane) Ends; lists = refl }) ends least
 
 -- ---- lanes that went on too early

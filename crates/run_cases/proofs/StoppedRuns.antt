@@ -1,6 +1,5 @@
 -- What the runs by hand share.
-use Rattle.std.proofs.Common.{◌≡◌, ap, sym, ◌∙◌, subst, ℕ, zero, suc, ◌<◌, List, [], ◌∷◌, ◌++◌, refl, Some, map, arith, rules}
-use Rattle.std.proofs.lemmas.Option.{same_Some}
+use Rattle.std.proofs.Common.{◌≡◌, ap, ◌∙◌, subst, ℕ, zero, suc, ◌<◌, List, [], ◌∷◌, ◌++◌, refl, map, arith, rules}
 use Rattle.log_format.specs.declared.record.Record.{Record}
 use Rattle.log_format.specs.declared.record.Kind.TheVariants as kind
 use Rattle.sw_base.specs.declared.path.Step.{Step}
@@ -8,9 +7,10 @@ use Rattle.race_model.specs.Listing.{IsListing}
 use Rattle.race_model.specs.Trace.{Trace}
 use Rattle.step_history.specs.History.{HasHistory}
 use Rattle.kernel_model.specs.declared.stop.StopWhy.{StopWhy}
+use Rattle.kernel_model.specs.declared.stop.StopWhy.TheVariants as because
 use Rattle.kernel_syntax.specs.Program.{Program}
 use Rattle.kernel_model.specs.Folder.{paths_of, root_start}
-use Rattle.kernel_model.specs.Trace.{Ending}
+use Rattle.kernel_model.specs.Trace.{Stopped}
 use Rattle.history_model.specs.Work.{Work}
 use Rattle.history_model.specs.Did.{did}
 use Rattle.history_model.specs.Joined.{IsJoined, LastIsEnd}
@@ -20,13 +20,9 @@ use Rattle.execution_model.specs.Runs.{RunsTask, logged_tasks}
 use Rattle.execution_laws.specs.Nesting.{NestsWithin}
 use Rattle.execution_laws.proofs.TaskListing.{are_within}
 use Rattle.execution_laws.proofs.Whole.{execution}
-use Rattle.lane_runner.specs.declared.stop.Stop.{Stop}
-use Rattle.lane_runner.specs.declared.stop.Stop.TheVariants as stop
-use Rattle.lane_runner.specs.Stopping.{ending_for}
 use Rattle.execution_model.specs.Elements.{layout_of, element_address}
 use Rattle.region_runner.specs.Answer.{EndsTask, IsLeast}
-use Rattle.run_command.specs.Run.{AreLeftLogs, AreStopped, IsLeftLog, told_log}
-use Rattle.run_command.specs.Told.{told_stop}
+use Rattle.run_command.specs.Run.{AreLeftLogs, AreStopped, IsLeftLog, StopsAt, told_log}
 use Rattle.run_cases.specs.TwoLanes.{dir, kernel, size}
 
 -- both kernels have this array
@@ -72,22 +68,15 @@ all_whole path [] = AreLeftLogs.no_task
 all_whole path (t ∷ tasks) = AreLeftLogs.next t tasks (told_log dir size t) (map (told_log dir size) tasks) (IsLeftLog.whole refl) (all_whole path tasks)
 
 -- a run that stopped as a trace tells, with whole logs
-pub are_stopped : (program : Program) (tasks : Trace) (words : List ℕ) (path : List Step) (why : Stop) (end : Ending) (line : ℕ) (reason : StopWhy)
-    → told_stop why ≡ Some (line, reason) → ending_for why ≡ Some end → ((at : ℕ) → why ≡ stop.Tasks at → ⊥) → IsExecution program tasks (element_address program.arrays) words
-    → IsListing (paths_of tasks) → EndsTask program tasks path end → IsLeast tasks path → AreStopped ⊥ program dir size (map (told_log dir size) tasks) path line reason
-are_stopped program tasks words path why end line reason told is few execution listed ends least = record {
-  why = why;
-  told = told;
+pub are_stopped : (program : Program) (tasks : Trace) (words : List ℕ) (path : List Step) (line : ℕ) (reason : StopWhy) → (reason ≡ because.Tasks → ⊥)
+    → IsExecution program tasks (element_address program.arrays) words → IsListing (paths_of tasks) → EndsTask program tasks path (Stopped reason line) → IsLeast tasks path
+    → AreStopped ⊥ program dir size (map (told_log dir size) tasks) path line reason
+are_stopped program tasks words path line reason other execution listed ends least = record {
   tasks = tasks;
   words = words;
   execution = execution;
   listed = listed;
   logs_are = all_whole path tasks;
-  stops = record {
-    traced = λ other same. subst (λ (e : Ending). EndsTask program tasks path e) (same_Some end other (sym is ∙ same)) ends;
-    crowded = λ at same. absurd (few at same);
-    joined = λ at same. absurd (few at same);
-    least = λ ok. least;
-  };
-  crowded = λ at same. absurd (few at same);
+  stops = StopsAt.as_traced reason other ends;
+  least = least;
 }

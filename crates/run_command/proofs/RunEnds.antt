@@ -20,8 +20,10 @@ use Rattle.race_model.specs.IndexFault.{AreRows}
 use Rattle.race_model.specs.Row.{Row, index_bytes}
 use Rattle.race_model.specs.Trace.{Trace, TaskLog}
 use Rattle.kernel_model.specs.declared.stop.StopWhy.{StopWhy}
+use Rattle.kernel_model.specs.declared.stop.StopWhy.TheVariants as because
 use Rattle.kernel_syntax.specs.Program.{Program}
 use Rattle.kernel_model.specs.Folder.{paths_of}
+use Rattle.kernel_model.specs.Trace.{Stopped}
 use Rattle.kernel_file.specs.declared.reading.KernelRefusal.{KernelRefusal}
 use Rattle.kernel_file.specs.declared.reading.KernelRefusal.TheVariants as kernel
 use Rattle.kernel_file.specs.Holding.{IsRefusal}
@@ -30,10 +32,11 @@ use Rattle.lane_runner.specs.declared.stop.Stop.{Stop}
 use Rattle.lane_runner.specs.declared.stop.Stop.TheVariants.{DivZero, Index, LogFull, Tasks, Trouble}
 use Rattle.lane_runner.specs.Handed.{AreEntriesOf, HandedEntry, HasCrowdedTask, HasFaultyLog, IsEntryOf, IsForMemory, KeepsRecords, LogPlace, MayLack, entries_of, entry_of}
 use Rattle.lane_runner.specs.Handed as handed
-use Rattle.region_runner.specs.Answer.{HasRun, HasStoppedRun, IsEndedRun, whole_handed, whole_outline}
+use Rattle.lane_runner.specs.Stopping.{IsNoTrouble}
+use Rattle.region_runner.specs.Answer.{EndsTask, HasRun, HasStoppedRun, IsEndedRun, StopsIn, whole_handed, whole_outline}
 use Rattle.run_command.specs.declared.outcome.Outcome.TheVariants as came
 use Rattle.run_command.specs.Outcomes.{unkernelled, unwritten}
-use Rattle.run_command.specs.Run.{AreLeftLogs, AreRunLogs, AreStopped, CameOut, CanRun, EndedRun, EndsSo, IsCrowded, IsLeftLog, IsTornLog, IsWholeRun, LeavesPart, StoppedRun, told_log}
+use Rattle.run_command.specs.Run.{AreLeftLogs, AreRunLogs, AreStopped, CameOut, CanRun, EndedRun, EndsSo, IsCrowded, IsLeftLog, IsTornLog, IsWholeRun, LeavesPart, StoppedRun, StopsAt, told_log}
 use Rattle.run_command.specs.Run as left
 use Rattle.run_command.specs.Told.{told_stop}
 use Rattle.run_command.specs.Seals.{AllTell, RaiseFaults, SealsAll, StoresAll, StoresPrefix, StoresPart, all_logged, prefix, part, row_of_entry, rows_of_logs, with_index}
@@ -160,6 +163,26 @@ told_no_trouble (LogFull line) told is trouble = trouble
 told_no_trouble (Tasks line) told is trouble = trouble
 told_no_trouble (Trouble t) told is trouble = none-some told is
 
+none_is_trouble : (why : Stop) (told : ℕ × StopWhy) → told_stop why ≡ Some told → IsNoTrouble why
+none_is_trouble (DivZero line) told is = tt
+none_is_trouble (Index line) told is = tt
+none_is_trouble (LogFull line) told is = tt
+none_is_trouble (Tasks line) told is = tt
+none_is_trouble (Trouble t) told is = none-some told is
+
+-- how a task stopped, by what is told of it
+module _ (program : Program) (tasks : Trace) (path : List Step) (told : ℕ × StopWhy) where
+  as_traced : (line : ℕ) (reason : StopWhy) → (reason ≡ because.Tasks → ⊥) → Some (line, reason) ≡ Some told → EndsTask program tasks path (Stopped reason line) → StopsAt program tasks path told.0 told.1
+  as_traced line reason other is ends = subst (λ (t : ℕ × StopWhy). StopsAt program tasks path t.0 t.1) (same_Some (line, reason) told is) (left.as_traced reason other ends)
+
+  stops_at : (why : Stop) → told_stop why ≡ Some told → StopsIn program tasks path why → ((at : ℕ) → why ≡ Tasks at → IsCrowded path (paths_of tasks)) → StopsAt program tasks path told.0 told.1
+  stops_at (DivZero line) is s crowded = as_traced line because.DivZero (λ same. cc) is (s.traced (Stopped because.DivZero line) refl)
+  stops_at (Index line) is s crowded = as_traced line because.Index (λ same. cc) is (s.traced (Stopped because.Index line) refl)
+  stops_at (LogFull line) is s crowded = as_traced line because.LogFull (λ same. cc) is (s.traced (Stopped because.LogFull line) refl)
+  stops_at (Tasks line) is s crowded =
+      subst (λ (t : ℕ × StopWhy). StopsAt program tasks path t.0 t.1) (same_Some (line, because.Tasks) told is) (left.crowded (s.crowded line refl) (s.joined line refl) (crowded line refl))
+  stops_at (Trouble t) is s crowded = absurd (none-some told is)
+
 module _ (rose : Type 0) (dir : List ℕ) (size : ℕ) (path : List Step) (why : Stop) (told : ℕ × StopWhy) (is_told : told_stop why ≡ Some told) where
   -- where the logs are, and how the run stopped
   abbrev here : LogPlace
@@ -239,16 +262,15 @@ module _ (rose : Type 0) (file dir : List ℕ) (size : ℕ) (root : Text) (progr
   -- what the logs are of
   are_stopped : AreStopped rose program dir size stop_logs path line reason
   are_stopped = record {
-    why = why;
-    told = is_told;
     tasks = has.tasks;
     words = words;
     execution = has.execution;
     listed = has.listed;
     logs_are = left_logs rose dir size path why (line, reason) is_told has.tasks entries has.logs_are raise;
-    stops = has.stops;
-    crowded = λ at is. crowded_paths path entries (paths_of has.tasks) (entry_paths rose dir size path why (line, reason) is_told has.tasks entries has.logs_are)
-        (has.tell.crowded path at (ap (λ (w : Stop). Some (path, w)) is));
+    stops = stops_at program has.tasks path (line, reason) why is_told has.stops (λ at is.
+        crowded_paths path entries (paths_of has.tasks) (entry_paths rose dir size path why (line, reason) is_told has.tasks entries has.logs_are)
+        (has.tell.crowded path at (ap (λ (w : Stop). Some (path, w)) is)));
+    least = has.stops.least (none_is_trouble why (line, reason) is_told);
   }
 
   all_tell : AllTell dir stop_logs

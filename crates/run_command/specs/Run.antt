@@ -13,12 +13,14 @@ use Rattle.race_model.specs.FirstBad.{rows_of}
 use Rattle.race_model.specs.IndexFault.{max_rows}
 use Rattle.race_model.specs.Listing.{IsListing}
 use Rattle.race_model.specs.Row.{index_bytes}
-use Rattle.race_model.specs.Trace.{TaskLog, Trace}
+use Rattle.race_model.specs.Trace.{TaskLog, Trace, logs_of}
 use Rattle.kernel_syntax.specs.Layout.{elements}
 use Rattle.kernel_syntax.specs.Program.{Program, program_of}
 use Rattle.kernel_model.specs.declared.stop.StopWhy.{StopWhy}
+use Rattle.kernel_model.specs.declared.stop.StopWhy.TheVariants.{Tasks}
 use Rattle.kernel_model.specs.Folder.{IsTracedFolder, paths_of}
 use Rattle.kernel_model.specs.Stopping.{stop_name}
+use Rattle.kernel_model.specs.Trace.{Stopped}
 use Rattle.kernel_text.specs.declared.fault.KernelWhy.{KernelWhy}
 use Rattle.kernel_reader.specs.declared.fault.ReadKernelFault.TheVariants as read
 use Rattle.command_answer.specs.declared.status.TheConstants.{DONE, INDEX_THERE, KERNEL_REFUSED, KERNEL_STOPPED}
@@ -27,13 +29,11 @@ use Rattle.command_answer.specs.Texts.{index_exists_text}
 use Rattle.kernel_file.specs.Due.{KernelDue}
 use Rattle.kernel_file.specs.Holding.{HoldsKernel, HoldsFault}
 use Rattle.execution_model.specs.Execution.{IsExecution}
-use Rattle.lane_runner.specs.declared.stop.Stop.{Stop}
-use Rattle.lane_runner.specs.declared.stop.Stop.TheVariants.{Tasks}
+use Rattle.lane_runner.specs.Stopping.{LastIsRegionAt}
 use Rattle.execution_model.specs.Elements.{element_address}
-use Rattle.region_runner.specs.Answer.{StopsIn, whole_outline}
+use Rattle.region_runner.specs.Answer.{EndsTask, IsLeast, LanesEnd, whole_outline}
 use Rattle.run_command.specs.declared.outcome.Outcome.{Outcome}
 use Rattle.run_command.specs.declared.outcome.Outcome.TheVariants as outcome
-use Rattle.run_command.specs.Told.{told_stop}
 
 -- the named file holds a kernel, and the folder has an index
 pub record HasIndex (files : Files) (kernel dir : List ℕ) : Type 0 where
@@ -98,18 +98,22 @@ pub record IsCrowded (path : List Step) (paths : List (List Step)) : Type 0 wher
   pub under : All (λ p. IsUnder p path) below
   pub many : task_limit < length below
 
--- The kernel stopped in the task of this path, and the stop is told by this line and reason. The logs are those of the tasks of one
--- execution, in the order of their paths.
+-- How the task of this path stopped, at this line: its trace ends so; or where too many tasks lie below it, its last record is that of a region at
+-- the line, and each lane of its regions put its End.
+pub data StopsAt (program : Program) (tasks : Trace) (path : List Step) (line : ℕ) : StopWhy → Type 0 where
+  as_traced : (reason : StopWhy) → (reason ≡ Tasks → ⊥) → EndsTask program tasks path (Stopped reason line) → StopsAt program tasks path line reason
+  crowded : LastIsRegionAt line (logs_of tasks path) → LanesEnd tasks path → IsCrowded path (paths_of tasks) → StopsAt program tasks path line Tasks
+
+-- The kernel stopped so in the task of this path, which is in the least lane that stopped. The logs are those of the tasks of one execution, in the
+-- order of their paths.
 pub record AreStopped (rose : Type 0) (program : Program) (dir : List ℕ) (size : ℕ) (logs : List HandedLog) (path : List Step) (line : ℕ) (reason : StopWhy) : Type 0 where
-  pub why : Stop
-  pub told : told_stop why ≡ Some (line, reason)
   pub tasks : Trace
   pub words : List ℕ
   pub execution : IsExecution program tasks (element_address program.arrays) words
   pub listed : IsListing (paths_of tasks)
   pub logs_are : AreLeftLogs rose dir size path tasks logs
-  pub stops : StopsIn program tasks path why
-  pub crowded : (at : ℕ) → why ≡ Tasks at → IsCrowded path (paths_of tasks)
+  pub stops : StopsAt program tasks path line reason
+  pub least : IsLeast tasks path
 
 -- This kernel, which is the file's, stopped so in a folder that had no index: its logs are there, and nothing else changed.
 pub record StoppedRun (rose : Type 0) (kernel dir : List ℕ) (size : ℕ) (old new : Content) (program : Program) (path : List Step) (line : ℕ) (reason : StopWhy) : Type 0 where

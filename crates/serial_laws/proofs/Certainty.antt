@@ -1,6 +1,5 @@
 -- A serial run of a fixed kernel without races is the certain run.
 use Rattle.std.proofs.Common.{sym, subst, ℕ, List}
-use Rattle.race_model.specs.History.{HasLegalHistory}
 use Rattle.race_model.specs.Listing.{IsListing}
 use Rattle.race_model.specs.Race.{IsRacePair}
 use Rattle.race_model.specs.Trace.{Trace, logs_of}
@@ -24,11 +23,8 @@ module _ (program : Program) (layout : WordLayout) (tasks : Trace) (words : List
   pub is_listed : IsListing (paths_of tasks)
   is_listed = subst (λ (t : Trace). IsListing (paths_of t)) (sym s.tasks_are) (serial_listing program layout 4 s.root words words s.runs)
 
-  pub is_in_order : HasSerialHistory (logs_of tasks) layout.address words
-  is_in_order = subst (λ (t : Trace). HasSerialHistory (logs_of t) layout.address words) (sym s.tasks_are) (serial_end program layout 4 s.root words words s.runs)
-
-  pub is_ended : HasLegalHistory (logs_of tasks) layout.address words
-  is_ended = is_in_order.legal
+  pub is_ended : HasSerialHistory (logs_of tasks) layout.address words
+  is_ended = subst (λ (t : Trace). HasSerialHistory (logs_of t) layout.address words) (sym s.tasks_are) (serial_end program layout 4 s.root words words s.runs)
 
 pub is_certain : (program : Program) (layout : WordLayout) (tasks : Trace) (words : List ℕ) → IsFixed program.main.body → IsSerialRun program layout tasks words
     → ((pair : ℕ × ℕ) → IsRacePair (logs_of tasks) pair → ⊥) → IsCertain program tasks
