@@ -1,5 +1,5 @@
 -- The table of records: which values each kind allows, as one test for each fault.
-use Rattle.std.specs.Prelude.{◌≡◌, ◌≢◌, ℕ, ◌+◌, ◌^◌, ◌<◌, ◌≤◌, List, slice_index}
+use Rattle.std.specs.Prelude.{◌≡◌, ◌≢◌, ◌⊎◌, ℕ, ◌+◌, ◌^◌, ◌<◌, ◌≤◌, List, slice_index}
 use Rattle.log_format.specs.declared.record.Kind.{Kind}
 use Rattle.log_format.specs.declared.record.Kind.TheVariants.{Read, Write, Lock, Unlock, Barrier, Region, Chunk, End, Update}
 use Rattle.log_format.specs.declared.record.Record.{Record}
@@ -17,6 +17,14 @@ pub record RecordFits (r : Record) : Type 0 where
   pub line : r.line < 2 ^ 32
   pub addr : r.addr < 2 ^ 64
   pub value : r.value < 2 ^ 64
+
+-- a record of this kind changes memory
+abbrev pub ChangesMemory : Kind → Type 0
+ChangesMemory kind = (kind ≡ Write) ⊎ (kind ≡ Update)
+
+-- a record of this kind reads or changes memory
+abbrev pub AccessesMemory : Kind → Type 0
+AccessesMemory kind = (kind ≡ Read) ⊎ ChangesMemory kind
 
 -- an access has 1, 2, 4 or 8 bytes, and nothing else has any
 abbrev pub HasSize : Kind → ℕ → Type 0

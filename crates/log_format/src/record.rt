@@ -1,3 +1,6 @@
+ghost use Rattle.std.specs.Prelude.{◌↔◌, IsTrue};
+ghost use Rattle.log_format.specs.Table.{AccessesMemory, ChangesMemory};
+
 /// The bytes of a record.
 pub const RECORD_SIZE: usize = 24;
 
@@ -28,6 +31,24 @@ pub enum Kind {
     End,
     /// An access that adds to what is there, in one step.
     Update,
+}
+
+impl Kind {
+    /// Whether a record of this kind reads or changes memory.
+    #[inline(always)]
+    pub fn is_access(self) -> bool
+        ensures { IsTrue result ↔ AccessesMemory self }
+    {
+        matches!(self, Kind::Read | Kind::Write | Kind::Update)
+    }
+
+    /// Whether a record of this kind changes memory.
+    #[inline(always)]
+    pub fn is_change(self) -> bool
+        ensures { IsTrue result ↔ ChangesMemory self }
+    {
+        matches!(self, Kind::Write | Kind::Update)
+    }
 }
 
 /// One step of a task, as its log tells it.

@@ -7,17 +7,18 @@ use Rattle.std.specs.Ordering.{nat_cmp, ordering_then}
 use Rattle.std.specs.List.Sorted.{IsStrictlySortedBy}
 use Rattle.log_format.specs.declared.record.Record.{Record}
 use Rattle.log_format.specs.declared.record.Kind.{Kind}
-use Rattle.log_format.specs.declared.record.Kind.TheVariants.{Read, Write, Lock, Unlock, Update}
+use Rattle.log_format.specs.declared.record.Kind.TheVariants.{Lock, Unlock, Update}
+use Rattle.log_format.specs.Table.{AccessesMemory, ChangesMemory}
 use Rattle.race_model.specs.Trace.{Logs, Node, record_at}
 use Rattle.race_model.specs.Order.{HappensBefore}
 
 -- a record changes memory
 abbrev pub IsChange : Record → Type 0
-IsChange r = (r.kind ≡ Write) ⊎ (r.kind ≡ Update)
+IsChange r = ChangesMemory r.kind
 
 -- a record reads or changes memory
 abbrev pub IsAccess : Record → Type 0
-IsAccess r = (r.kind ≡ Read) ⊎ IsChange r
+IsAccess r = AccessesMemory r.kind
 
 -- the access touches the byte
 pub record HasByte (r : Record) (byte : ℕ) : Type 0 where
