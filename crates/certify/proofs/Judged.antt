@@ -25,7 +25,7 @@ use Rattle.certainty_model.specs.Certain.{IsCertain}
 use Rattle.certainty_model.proofs.CertainRuns.{only_run}
 use Rattle.certify.specs.Holding.{HoldsTasks, KeepRules}
 use Rattle.certify.specs.Verdicts.{HasCertainRun, HasRaces, OpensOneTooMany, RunSpells, RunsTo, element_layout, record_total}
-use Rattle.certify.proofs.FewSegments.{few_segments}
+use Rattle.folder_races.proofs.FewSegments.{few_segments}
 use Rattle.certify.proofs.TooMany.{opens_the_first}
 use Rattle.certify.specs.declared.certifying.TheConstants.{MOST_RECORDS}
 

@@ -1,5 +1,4 @@
 pub mod Fixed
-pub mod FewSegments
 mod FirstLines
 pub mod StmtLines
 mod Putting

@@ -10,7 +10,7 @@ use Rattle.command_answer.specs.Answer.{Answers, IsFailure, Tries, failed, given
 use Rattle.command_answer.specs.declared.status.TheConstants.{FOLDER_REFUSED}
 use Rattle.command_answer.proofs.Answering.{Tries-weaker}
 use Rattle.folder_commands.specs.Check.{AnswersForRun, AnswersRefusal, FolderDue, HoldsGoodRun, IsRefusedFolder, answered, answers, fails, refused, refuses}
-use Rattle.folder_commands.proofs.FewSegments.{few_segments, kept_is_well_formed}
+use Rattle.folder_races.proofs.FewSegments.{few_segments, kept_is_well_formed}
 
 -- the run of a folder that is bad nowhere is a good one
 pub good_run : (files : Files) (dir : List ℕ) (trace : Trace) → IsWellFormed FORMAT files dir → HoldsTrace FORMAT files dir trace → HoldsGoodRun files dir trace

@@ -1,4 +1,3 @@
-pub mod FewSegments
 pub mod FolderAnswers
 pub mod OneSummary
 pub mod OneAnswer

@@ -1,1 +1,2 @@
+pub mod FewSegments
 pub mod Sweeping
