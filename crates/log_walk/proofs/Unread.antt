@@ -28,13 +28,6 @@ next_ahead ahead (Some rest) before left count is told all =
       | inr enough ↦ sym (take-append-le count ahead rest enough) ∙ ap (take count) same
     ]
 
--- the first bytes of a file are passed
-pub passed_first : (first : Option (List ℕ)) (ahead header later : List ℕ) (rest : Option (List ℕ)) → unread ahead rest ≡ unread [] first → ahead ≡ header ++ later → first ≡ option_map (λ (left : List ℕ). header ++ left) (unread later rest)
-passed_first None ahead header later None same is = refl
-passed_first None ahead header later (Some rest) same is = cc same
-passed_first (Some bytes) ahead header later None same is = cc same
-passed_first (Some bytes) ahead header later (Some rest) same is = sym same ∙ ap (λ (bs : List ℕ). Some (bs ++ rest)) is ∙ ap Some (append_assoc header later rest)
-
 -- a file that was opened holds what is told of it
 pub opened_file : {T : Type 0} (rest : T → Option (List ℕ)) (file : T) (held : Option (List ℕ)) → option_map rest (Some file) ≡ option_map Some held → (bytes : List ℕ) × (held ≡ Some bytes) × (rest file ≡ Some bytes)
 opened_file rest file None same = cc same
