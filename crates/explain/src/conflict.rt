@@ -7,32 +7,14 @@ ghost use Rattle.explain.specs.Witness.{ConflictAt, IsLeastByte};
 use crate::finding::Found;
 use log_format::{Kind, Record};
 
-fn is_change(event: &Record) -> bool
-    ensures { IsTrue result ↔ IsChange event.now }
-{
-    matches!(event.kind, Kind::Write | Kind::Update)
-}
-
-fn is_access(event: &Record) -> bool
-    ensures { IsTrue result ↔ IsAccess event.now }
-{
-    matches!(event.kind, Kind::Read | Kind::Write | Kind::Update)
-}
-
-fn is_update(event: &Record) -> bool
-    ensures { IsTrue result ↔ (event.now.kind ≡ Update) }
-{
-    matches!(event.kind, Kind::Update)
-}
-
 /// Whether both are accesses, one of them changes memory, and not both update it.
 fn may_race(one: &Record, other: &Record) -> bool
     ensures { IsTrue result ↔ (IsAccess one.now × IsAccess other.now × (IsChange one.now ⊎ IsChange other.now) × (one.now.kind ≡ Update → other.now.kind ≡ Update → ⊥)) }
 {
-    is_access(one)
-        && is_access(other)
-        && (is_change(one) || is_change(other))
-        && !(is_update(one) && is_update(other))
+    one.kind.is_access()
+        && other.kind.is_access()
+        && (one.kind.is_change() || other.kind.is_change())
+        && !(one.kind == Kind::Update && other.kind == Kind::Update)
 }
 
 /// The first byte that two accesses have in common.
