@@ -22,7 +22,7 @@ use Rattle.stride_summary.specs.Run.{HasPair, HasRunAddress, run_key}
 use Rattle.sw_base.specs.declared.path.Step.{Step}
 use Rattle.race_model.proofs.TraceLogs.{record_there}
 use Rattle.explain.specs.Least.{FindsLeast, FindsRace, RacesOn}
-use Rattle.explain.specs.Suspects.{FindsMet, HasOwn, HoldAccesses, HoldPartners, IsOnLines, MayMeet, team_of}
+use Rattle.explain.specs.Suspects.{FindsMet, HasOwn, HoldAccesses, HoldPartners, IsOnLines, MayMeet, root_team}
 use Rattle.explain.specs.Witness.{IsInLog, TellsRecord}
 use Rattle.explain.specs.declared.finding.Found.{Found}
 use Rattle.explain.specs.declared.stretch.RecordRange.{RecordRange}
@@ -63,7 +63,7 @@ module _ (trace : Trace) (lines : ℕ × ℕ) (x y : Node) (byte : ℕ) (keeps :
   concurrent : IsConcurrent own.label their.label
   concurrent = unordered_concurrent logs x y own.label their.label (fork_join trace keeps) (record_there logs x races.r race.left) (record_there logs y races.s race.right) mine.has.label yours.has.label race.unordered
 
-  pub same : team_of own.label ≡ team_of their.label
+  pub same : root_team own.label ≡ root_team their.label
   same = same_team logs x y own.label their.label mine.has.label yours.has.label concurrent
 
   conflict : IsConflict own_key races.r.addr other_key races.s.addr
@@ -123,7 +123,7 @@ module _ (trace : Trace) (lines : ℕ × ℕ) (segments : List Segment) (keeps :
 
   -- and none of a task whose intervals don't
   pub no_race : (place : ℕ) (path : List Step) → ((x : Node) → IsInLog trace place x → x.path ≡ path)
-      → ((own their : Segment) → Contains segments own → Contains segments their → own.path ≡ path → team_of own.label ≡ team_of their.label → IsRacingPair own their lines → ⊥)
+      → ((own their : Segment) → Contains segments own → Contains segments their → own.path ≡ path → root_team own.label ≡ root_team their.label → IsRacingPair own their lines → ⊥)
       → FindsRace trace lines place None
   no_race place path path_of never x in_x other y byte later in_y races =
       let o = are_own place other x y byte in_x in_y races in

@@ -6,7 +6,7 @@ use Rattle.race_model.specs.Trace.{Logs, Node}
 use Rattle.segment_groups.specs.Group.{ShareGroup, group_key, lane_at}
 use Rattle.segment_groups.proofs.LabelGroups.{ArePartedAt, concurrent_parted, share_first}
 use Rattle.segment_groups.proofs.LabelPaths.{spans_agree}
-use Rattle.explain.specs.Suspects.{team_of}
+use Rattle.explain.specs.Suspects.{root_team}
 
 -- the first triple is the root's
 root_lane : (logs : Logs) (x : Node) (label : List Triple) → IsLabel logs x label → lane_at 0 label ≡ 0
@@ -24,7 +24,7 @@ same_barrier : (depth : ℕ) (u w : Triple) (l m : List Triple) → group_key de
 same_barrier zero u w l m same = let keys : u.span ∷ u.barrier ∷ [] ≡ w.span ∷ w.barrier ∷ [] = same in cc
 same_barrier (suc depth) u w l m same = let keys : u.span ∷ u.barrier ∷ u.offset ∷ group_key depth l ≡ w.span ∷ w.barrier ∷ w.offset ∷ group_key depth m = same in cc
 
-below_root : (depth : ℕ) (l m : List Triple) → ShareGroup (suc depth) l m → team_of l ≡ team_of m
+below_root : (depth : ℕ) (l m : List Triple) → ShareGroup (suc depth) l m → root_team l ≡ root_team m
 below_root depth [] m share = absurd (let mine = share.mine in omega arith)
 below_root depth (t ∷ []) m share = absurd (let mine = share.mine in omega arith)
 below_root depth (t ∷ u ∷ l) [] share = absurd (let yours = share.yours in omega arith)
@@ -34,12 +34,12 @@ below_root depth (t ∷ u ∷ l) (v ∷ w ∷ m) share =
     let barriers = same_barrier depth u w l m one.rest.same in
     λ i. ((one.first i).offset, barriers i)
 
-pub same_team : (logs : Logs) (x y : Node) (l m : List Triple) → IsLabel logs x l → IsLabel logs y m → IsConcurrent l m → team_of l ≡ team_of m
+pub same_team : (logs : Logs) (x y : Node) (l m : List Triple) → IsLabel logs x l → IsLabel logs y m → IsConcurrent l m → root_team l ≡ root_team m
 same_team logs x y l m is_l is_m concurrent = go parted.depth parted.share parted.lanes
   where
     parted : ArePartedAt l m
     parted = concurrent_parted l m (spans_agree logs x y l m is_l is_m) concurrent
 
-    go : (depth : ℕ) → ShareGroup depth l m → (lane_at depth l ≢ lane_at depth m) → team_of l ≡ team_of m
+    go : (depth : ℕ) → ShareGroup depth l m → (lane_at depth l ≢ lane_at depth m) → root_team l ≡ root_team m
     go zero share differ = absurd (differ (root_lane logs x l is_l ∙ sym (root_lane logs y m is_m)))
     go (suc depth) share differ = below_root depth l m share

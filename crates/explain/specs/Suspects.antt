@@ -72,12 +72,12 @@ barrier_in None = 0
 barrier_in (Some t) = t.barrier
 
 -- what the labels of concurrent intervals have in common: how many regions the root forked before, and how many barriers the team of the root's region has passed
-abbrev pub team_of : List Triple → ℕ × ℕ
-team_of label = (region_in (slice_get label 0), barrier_in (slice_get label 1))
+abbrev pub root_team : List Triple → ℕ × ℕ
+root_team label = (region_in (slice_get label 0), barrier_in (slice_get label 1))
 
 -- each interval of the same team with an access that the record may race with is among the stretches, where one of the intervals has the record
 abbrev pub FindsMet : List Segment → List Step → ℕ → Found → ℕ × ℕ → List RecordRange → Type 0
-FindsMet segments path number one lines stretches = (own their : Segment) → Contains segments own → Contains segments their → team_of own.label ≡ team_of their.label
+FindsMet segments path number one lines stretches = (own their : Segment) → Contains segments own → Contains segments their → root_team own.label ≡ root_team their.label
     → IsRunWithin own.path own.first own.last path number → MayMeet own their one lines → IsAmong their stretches
 
 -- each record that races with x in these lines is in one of the stretches

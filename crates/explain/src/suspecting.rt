@@ -5,7 +5,7 @@ ghost use Rattle.log_segment.specs.declared.segment.Segment.{Segment as Interval
 ghost use Rattle.pair_compare.specs.Compare.{IsRacingPair, IsSegmentPair};
 ghost use Rattle.stride_summary.specs.Run.{HasRunAddress, run_key};
 ghost use Rattle.explain.specs.Filed.{HasOne};
-ghost use Rattle.explain.specs.Suspects.{FindsMet, IsAmong, IsRunWithin, MayMeet, team_of};
+ghost use Rattle.explain.specs.Suspects.{FindsMet, IsAmong, IsRunWithin, MayMeet, root_team};
 ghost use Rattle.explain.specs.declared.stretch.RecordRange.{RecordRange as Records};
 
 use crate::finding::Found;
@@ -68,7 +68,7 @@ fn is_racing(
     suspect: &Suspect<'_>,
     lines: (u32, u32),
 ) -> Result<bool, Memory>
-    ensures { IfOk result (λ yes. (their : Interval) → Contains suspects.now their → team_of suspect.now.label ≡ team_of their.label → IsRacingPair suspect.now their lines → IsTrue yes) }
+    ensures { IfOk result (λ yes. (their : Interval) → Contains suspects.now their → root_team suspect.now.label ≡ root_team their.label → IsRacingPair suspect.now their lines → IsTrue yes) }
 {
     let own = suspect.segment();
     let Some(beside) = suspects.beside(&own.label) else {
@@ -84,7 +84,7 @@ pub fn is_row_suspected(
     path: &Path,
     lines: (u32, u32),
 ) -> Result<bool, Memory>
-    ensures { IfOk result (λ yes. (own their : Interval) → Contains suspects.now own → Contains suspects.now their → own.path ≡ path.now → team_of own.label ≡ team_of their.label
+    ensures { IfOk result (λ yes. (own their : Interval) → Contains suspects.now own → Contains suspects.now their → own.path ≡ path.now → root_team own.label ≡ root_team their.label
         → IsRacingPair own their lines → IsTrue yes) }
 {
     let Some(owns) = suspects.of_task(path) else {
@@ -233,7 +233,7 @@ fn add_met_within(
     met: &mut Vec<RecordRange>,
 ) -> Result<(), Memory>
     ensures met { OnOk result (IsRunWithin own.now.path own.now.first own.now.last path.now number → (their : Interval) → Contains suspects.now their
-        → team_of own.now.label ≡ team_of their.label → MayMeet own.now their one.now lines → IsAmong their met.new.items) }
+        → root_team own.now.label ≡ root_team their.label → MayMeet own.now their one.now lines → IsAmong their met.new.items) }
     ensures old { OnOk result ((s : Records) → Contains met.old.items s → Contains met.new.items s) }
 {
     if !is_within(&own.path, own.first, own.last, path, number) {

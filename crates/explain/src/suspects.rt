@@ -2,7 +2,7 @@
 ghost use Rattle.std.specs.Prelude.{◌≡◌, Contains, IfOk, IsSomeAnd, OnOk};
 ghost use Rattle.log_segment.specs.declared.segment.Segment.{Segment as Interval};
 ghost use Rattle.explain.specs.Filed.{HasOne, IsFiled};
-ghost use Rattle.explain.specs.Suspects.{team_of};
+ghost use Rattle.explain.specs.Suspects.{root_team};
 
 use crate::suspect::Suspect;
 use span_label::Label;
@@ -13,8 +13,8 @@ use sw_base::{Memory, Path};
 
 /// What an interval has in common with each that may be concurrent with it: how many regions the root forked before, and how many barriers
 /// the team of the root's region has passed.
-fn team_of(label: &Label) -> (u64, u32)
-    ensures { result ≡ team_of label.now }
+fn root_team(label: &Label) -> (u64, u32)
+    ensures { result ≡ root_team label.now }
 {
     let triples = label.triples();
     let region = match triples.get(0) {
@@ -71,13 +71,13 @@ impl<'a, 's> Model for Suspects<'a, 's> {
     ghost use Rattle.race_model.specs.Race.{pair_cmp};
     ghost use Rattle.sw_base.specs.Names.{path_cmp};
     ghost use Rattle.explain.specs.Filed.{AreFiled};
-    ghost use Rattle.explain.specs.Suspects.{team_of};
+    ghost use Rattle.explain.specs.Suspects.{root_team};
 
     ghost Value = { List Segment };
 
     ghost view = { λ s. s.all.now };
 
-    ghost invariant = { λ s. AreFiled path_cmp (λ own. own.path) s.tasks s.all.now × AreFiled pair_cmp (λ own. team_of own.label) s.teams s.all.now };
+    ghost invariant = { λ s. AreFiled path_cmp (λ own. own.path) s.tasks s.all.now × AreFiled pair_cmp (λ own. root_team own.label) s.teams s.all.now };
 }
 
 impl<'a, 's> Suspects<'a, 's> {
@@ -90,7 +90,7 @@ impl<'a, 's> Suspects<'a, 's> {
         for suspect in all {
             let own = suspect.segment();
             file(alloc, &mut tasks, own.path.copy(), suspect)?;
-            file(alloc, &mut teams, team_of(&own.label), suspect)?;
+            file(alloc, &mut teams, root_team(&own.label), suspect)?;
         }
         Ok(Suspects { all, tasks, teams })
     }
@@ -104,8 +104,8 @@ impl<'a, 's> Suspects<'a, 's> {
 
     /// The suspects that may be concurrent with an interval of this label, where there are any.
     pub fn beside(&self, label: &Label) -> Option<&Vec<&'a Suspect<'s>>>
-        ensures { (their : Interval) → Contains self.now their → team_of label.now ≡ team_of their.label → IsSomeAnd result (λ found. HasOne their found.now.items) }
+        ensures { (their : Interval) → Contains self.now their → root_team label.now ≡ root_team their.label → IsSomeAnd result (λ found. HasOne their found.now.items) }
     {
-        of(&self.teams, &team_of(label))
+        of(&self.teams, &root_team(label))
     }
 }

@@ -7,7 +7,7 @@ use Rattle.race_model.specs.Race.{pair_cmp}
 use Rattle.sw_base.specs.Names.{path_cmp}
 use Rattle.sw_base.specs.declared.path.Step.{Step}
 use Rattle.explain.specs.Filed.{IsFiled}
-use Rattle.explain.specs.Suspects.{team_of}
+use Rattle.explain.specs.Suspects.{root_team}
 use Rattle.explain.proofs.Answering.{contains_at, place_is}
 use Rattle.explain.proofs.suspects.Suspects.build.Goals as goal
 
@@ -24,9 +24,9 @@ loop-suspect-preserved c =
       ];
       teams = λ k own below found. elim (cases_order k c.loop-suspect.suspect-index) [
         | inl same ↦ (let e : c.suspect-item.result ≡ own = same_Some c.suspect-item.result own (sym item ∙ (ap (slice_get c.args.all.now) (sym same) ∙ found)) in
-            let key : c.team_of.result ≡ team_of c.suspect-item.result.label = c.team_of.ensures ∙ ap (λ (s : Segment). team_of s.label) c.segment-own.ensures in
-            subst (λ (s : Segment). IsFiled pair_cmp c.file-in-loop-suspect.new.filed (team_of s.label) s) e (subst (λ (t : ℕ × ℕ). IsFiled pair_cmp c.file-in-loop-suspect.new.filed t c.suspect-item.result) key c.in_ok-file-2.ensures.put))
-        | inr (inl less) ↦ c.in_ok-file-2.ensures.old (team_of own.label) own (c.loop-suspect.invariant.teams k own less found)
+            let key : c.root_team.result ≡ root_team c.suspect-item.result.label = c.root_team.ensures ∙ ap (λ (s : Segment). root_team s.label) c.segment-own.ensures in
+            subst (λ (s : Segment). IsFiled pair_cmp c.file-in-loop-suspect.new.filed (root_team s.label) s) e (subst (λ (t : ℕ × ℕ). IsFiled pair_cmp c.file-in-loop-suspect.new.filed t c.suspect-item.result) key c.in_ok-file-2.ensures.put))
+        | inr (inl less) ↦ c.in_ok-file-2.ensures.old (root_team own.label) own (c.loop-suspect.invariant.teams k own less found)
         | inr (inr above) ↦ absurd (omega (arith, above, below))
       ];
     }
