@@ -1,24 +1,12 @@
 -- The labels of concurrent intervals have a region of the root and a barrier number in common.
-use Rattle.std.proofs.Common.{◌≡◌, ◌≢◌, ℕ, zero, suc, ◌%◌, List, [], ◌∷◌, ◌++◌, refl, sym, ◌∙◌, arith}
-use Rattle.race_laws.proofs.LabelPlace.{HasLast, label_last, not_both_empty}
-use Rattle.race_model.specs.Label.{Triple, IsConcurrent, IsLabel, lane_triple}
+use Rattle.std.proofs.Common.{◌≡◌, ◌≢◌, ℕ, zero, suc, List, [], ◌∷◌, sym, ◌∙◌, arith}
+use Rattle.race_model.specs.Label.{Triple, IsConcurrent, IsLabel}
 use Rattle.race_model.specs.Trace.{Logs, Node}
 use Rattle.segment_groups.specs.Group.{ShareGroup, group_key, lane_at}
 use Rattle.segment_groups.proofs.LabelGroups.{ArePartedAt, concurrent_parted, share_first}
 use Rattle.segment_groups.proofs.LabelPaths.{spans_agree}
+use Rattle.segment_groups.proofs.TreeGroups.{root_lane}
 use Rattle.explain.specs.Suspects.{root_team}
-
--- the first triple is the root's
-root_lane : (logs : Logs) (x : Node) (label : List Triple) → IsLabel logs x label → lane_at 0 label ≡ 0
-root_lane logs x _ (IsLabel.root x1 e) = one _
-  where
-    one : (n : ℕ) → n % 1 ≡ 0
-    one n = omega arith
-root_lane logs x _ (IsLabel.lane fork x1 n s above h up) = go above (label_last logs fork above up) (root_lane logs fork above up)
-  where
-    go : (above : List Triple) → HasLast above → lane_at 0 above ≡ 0 → lane_at 0 (above ++ lane_triple logs x n s ∷ []) ≡ 0
-    go [] last first = absurd (not_both_empty [] last.prefix last.last refl last.parts)
-    go (t ∷ rest) last first = first
 
 same_barrier : (depth : ℕ) (u w : Triple) (l m : List Triple) → group_key depth (u ∷ l) ≡ group_key depth (w ∷ m) → u.barrier ≡ w.barrier
 same_barrier zero u w l m same = let keys : u.span ∷ u.barrier ∷ [] ≡ w.span ∷ w.barrier ∷ [] = same in cc

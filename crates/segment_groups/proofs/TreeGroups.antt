@@ -105,9 +105,12 @@ root_of logs x _ (IsLabel.lane fork x1 n s above h up) =
     let root = root_of logs fork above up in
     record { first = root.first; rest = root.rest ++ lane_triple logs x n s ∷ []; parts = ap (λ (l : List Triple). l ++ lane_triple logs x n s ∷ []) root.parts; alone = root.alone }
 
-root_lane : (label : List Triple) → HasRoot label → lane_at 0 label ≡ 0
-root_lane label root = ap (lane_at 0) root.parts ∙ (λ i. root.first.offset % root.alone i) ∙ one root.first.offset
+pub root_lane : (logs : Logs) (x : Node) (label : List Triple) → IsLabel logs x label → lane_at 0 label ≡ 0
+root_lane logs x label is = ap (lane_at 0) root.parts ∙ (λ i. root.first.offset % root.alone i) ∙ one root.first.offset
   where
+    root : HasRoot label
+    root = root_of logs x label is
+
     one : (n : ℕ) → n % 1 ≡ 0
     one n = omega arith
 
@@ -137,7 +140,7 @@ partner_later segments tree i j partner = go parted.depth parted.share parted.la
     strictly m n le differ = grind arith
 
     go : (depth : ℕ) → ShareGroup depth (label_at segments i) (label_at segments j) → (lane_at depth (label_at segments i) ≢ lane_at depth (label_at segments j)) → IsLaterAtSome (label_at segments) i j
-    go zero share differ = absurd (differ (root_lane _ (root_of tree.logs _ _ (is_label segments tree i mine)) ∙ sym (root_lane _ (root_of tree.logs _ _ (is_label segments tree j yours)))))
+    go zero share differ = absurd (differ (root_lane tree.logs _ _ (is_label segments tree i mine) ∙ sym (root_lane tree.logs _ _ (is_label segments tree j yours))))
     go (suc depth) share differ =
         let member : IsMember (suc depth) (label_at segments) i j = record { later = partner.later; group = share } in
         record {
