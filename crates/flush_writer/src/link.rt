@@ -9,7 +9,7 @@ ghost use Rattle.flush_writer.specs.Held.{Held, IsSentBack};
 ghost use Rattle.flush_writer.specs.Placed.{CanBeSent};
 
 use crate::errand::Errand;
-use hand_over::{Desk, Parcels, Place};
+use hand_over::{Desk, LanePlace, Parcels};
 use std::alloc::Global;
 use std::marker::{Model, Send};
 use std::sync::{Arc, Wait};
@@ -42,7 +42,7 @@ fn serve<L: Log, R: Wait>(
     rt: &R,
     alloc: Global,
     parcels: &Parcels<Errand<L>>,
-    place: &mut Place<Errand<L>>,
+    place: &mut LanePlace<Errand<L>>,
 )
     requires table { place.old.table ≡ parcels.now }
     requires none { place.old.took ≡ None }
@@ -59,7 +59,7 @@ fn serve<L: Log, R: Wait>(
 // A way of one lane, and its two ends.
 fn way<L: Log>(
     alloc: Global,
-) -> Result<(Parcels<Errand<L>>, Desk<Errand<L>>, Place<Errand<L>>), Memory>
+) -> Result<(Parcels<Errand<L>>, Desk<Errand<L>>, LanePlace<Errand<L>>), Memory>
     ensures desk { IfOk result (λ r. (r.1.table ≡ r.0) × (turn_at r.1.turns 0 ≡ Idle)) }
     ensures place { IfOk result (λ r. (r.2.table ≡ r.0) × (r.2.took ≡ None)) }
 {

@@ -10,7 +10,7 @@ pub record DeskValue (A P : Type 0) : Type 0 where
   pub turns : List (Turn P)
 
 -- its table, what all parcels are about, its lane, what it took, and whether it has seen that the lane is closed
-pub record PlaceValue (A P : Type 0) : Type 0 where
+pub record LanePlaceValue (A P : Type 0) : Type 0 where
   pub table : TableId
   pub about : A
   pub lane : ℕ
@@ -22,7 +22,7 @@ abbrev pub with_turn : {A P : Type 0} → DeskValue A P → ℕ → Turn P → D
 with_turn desk lane turn = record desk { turns = slice_set desk.turns lane turn }
 
 -- the place of a lane of this table that took nothing yet
-abbrev pub new_place : {A P : Type 0} → TableId → A → ℕ → PlaceValue A P
+abbrev pub new_place : {A P : Type 0} → TableId → A → ℕ → LanePlaceValue A P
 new_place table about lane = record { table = table; about = about; lane = lane; took = None; closed = false }
 
 -- a place holds its lane's slot, empty, while it has a parcel

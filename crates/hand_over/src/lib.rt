@@ -1,7 +1,7 @@
 //! Messages that go from one thread to others and are answered, on one table under a rule that every step keeps.
 //!
 //! A message is a `Parcel`, and each type of parcel says itself what fits, and what follows what. `Parcels` has lanes, 1 to 64. The
-//! owner of the `Desk` hands out, and each lane has a `Place` for the worker that serves it. `send` gives a lane a parcel, which
+//! owner of the `Desk` hands out, and each lane has a `LanePlace` for the worker that serves it. `send` gives a lane a parcel, which
 //! fits what all parcels are about. `take` waits for it at the lane's place, and `give_back` returns one that follows it.
 //! `collect` waits for that at the desk, and then the lane is free again. A lane that is free may be closed, which its place
 //! learns by `take`.
@@ -22,5 +22,5 @@ mod view;
 pub use desk::Desk;
 pub use parcel::Parcel;
 pub use parcels::Parcels;
-pub use place::Place;
+pub use place::LanePlace;
 pub use view::{Turn, View};

@@ -1,13 +1,13 @@
 //! The calls by which parcels go and come back.
 ghost use Rattle.std.specs.Prelude.{◌≡◌, ◌<◌, ◌≤◌, ℕ, [], ◌∷◌, true, false, length, replicate, slice_index_or, vec_len, None, Some, IfOk, IfSome, IfNone};
 ghost use Rattle.atomic_table.specs.Seated.{TableId};
-ghost use Rattle.hand_over.specs.Handles.{PlaceValue, new_place, with_turn};
+ghost use Rattle.hand_over.specs.Handles.{LanePlaceValue, new_place, with_turn};
 ghost use Rattle.hand_over.specs.Views.{emptying_lane, first_view, idle_view, turn_at, with_lane};
 ghost use Rattle.hand_over.specs.declared.view.Turn.TheVariants.{Closed, Idle, Out};
 
 use crate::desk::Desk;
 use crate::parcel::Parcel;
-use crate::place::Place;
+use crate::place::LanePlace;
 use crate::plays::{Adds, Ends, Frees, Looks, Opens, Returns, Sends, Takes};
 use crate::turns::{Lanes, Token};
 use atomic_table::Table;
@@ -60,13 +60,13 @@ impl<P: Parcel> Parcels<P> {
         alloc: Global,
         lanes: usize,
         about: &P::About,
-    ) -> Result<(Parcels<P>, Desk<P>, Vec<Place<P>>), Memory>
+    ) -> Result<(Parcels<P>, Desk<P>, Vec<LanePlace<P>>), Memory>
         requires { (1 ≤ lanes) × (lanes ≤ 64) }
         ensures table { IfOk result (λ r. r.1.table ≡ r.0) }
         ensures about { IfOk result (λ r. r.1.about ≡ about.now) }
         ensures turns { IfOk result (λ r. r.1.turns ≡ replicate lanes Idle) }
         ensures count { IfOk result (λ r. vec_len r.2 ≡ lanes) }
-        ensures places { IfOk result (λ r. (lane : ℕ) (d : PlaceValue P.About P) → lane < lanes → slice_index_or r.2.items lane d ≡ new_place r.0 about.now lane) }
+        ensures places { IfOk result (λ r. (lane : ℕ) (d : LanePlaceValue P.About P) → lane < lanes → slice_index_or r.2.items lane d ≡ new_place r.0 about.now lane) }
     {
         let (parcels, mut token) = laid(alloc, lanes, about)?;
         let places = parcels.places(alloc, &mut token, lanes)?;
@@ -79,14 +79,14 @@ impl<P: Parcel> Parcels<P> {
         alloc: Global,
         token: &mut Token<P>,
         lanes: usize,
-    ) -> Result<Vec<Place<P>>, Memory>
+    ) -> Result<Vec<LanePlace<P>>, Memory>
         requires table { token.old.table_id ≡ self.now }
         requires all { (self.now.words ≡ lanes) × (self.now.slots ≡ lanes) }
         requires fresh { token.old.me ≡ (first_view token.old.me.0.about, []) }
         ensures table { token.new.table_id ≡ token.old.table_id }
         ensures desk { IfOk result (λ places. token.new.me ≡ (idle_view token.old.me.0.about lanes, [])) }
         ensures count { IfOk result (λ places. vec_len places ≡ lanes) }
-        ensures places { IfOk result (λ places. (lane : ℕ) (d : PlaceValue P.About P) → lane < lanes → slice_index_or places.items lane d ≡ new_place self.now token.old.me.0.about lane) }
+        ensures places { IfOk result (λ places. (lane : ℕ) (d : LanePlaceValue P.About P) → lane < lanes → slice_index_or places.items lane d ≡ new_place self.now token.old.me.0.about lane) }
     {
         let mut places = Vec::new(alloc);
         for lane in 0..lanes {
@@ -96,7 +96,7 @@ impl<P: Parcel> Parcels<P> {
     }
 
     // The place of the desk's next lane.
-    fn place(&self, token: &mut Token<P>, lane: usize) -> Place<P>
+    fn place(&self, token: &mut Token<P>, lane: usize) -> LanePlace<P>
         requires table { token.old.table_id ≡ self.now }
         requires square { self.now.slots ≡ self.now.words }
         requires desk { token.old.me.0.is_desk ≡ true }
@@ -107,7 +107,7 @@ impl<P: Parcel> Parcels<P> {
         ensures place { result ≡ new_place self.now token.old.me.0.about lane }
     {
         let token = self.table.shared.split_seat::<Adds>(token);
-        Place { token, lane }
+        LanePlace { token, lane }
     }
 
     // Lets others run until the word has changed, or for a while.
@@ -165,7 +165,7 @@ impl<P: Parcel> Parcels<P> {
     }
 
     /// Waits for the lane's parcel. There is none exactly where the lane is closed.
-    pub fn take<R: Wait>(&self, rt: &R, place: &mut Place<P>) -> Option<P>
+    pub fn take<R: Wait>(&self, rt: &R, place: &mut LanePlace<P>) -> Option<P>
         requires table { place.old.table ≡ self.now }
         requires none { place.old.took ≡ None }
         ensures some { IfSome result (λ parcel. place.new ≡ record place.old { took = Some parcel }) }
@@ -177,7 +177,7 @@ impl<P: Parcel> Parcels<P> {
     }
 
     /// Gives back a parcel that follows the one which the place took.
-    pub fn give_back(&self, place: &mut Place<P>, parcel: P)
+    pub fn give_back(&self, place: &mut LanePlace<P>, parcel: P)
         requires table { place.old.table ≡ self.now }
         requires follows { (sent : P) × (place.old.took ≡ Some sent) × P.follows place.old.about sent parcel }
         ensures { place.new ≡ record place.old { took = None } }

@@ -1,6 +1,6 @@
 //! Where a lane's parcels are taken.
 ghost use Rattle.std.specs.Prelude.{◌≡◌, ◌<◌, false};
-ghost use Rattle.hand_over.specs.Handles.{PlaceValue, carried};
+ghost use Rattle.hand_over.specs.Handles.{LanePlaceValue, carried};
 
 use crate::parcel::Parcel;
 use crate::turns::Token;
@@ -8,13 +8,13 @@ use std::marker::Model;
 
 /// What one thread takes a lane's parcels with and gives them back.
 #[derive(Drop)]
-pub struct Place<P: Parcel> {
+pub struct LanePlace<P: Parcel> {
     pub(crate) token: Token<P>,
     pub(crate) lane: usize,
 }
 
-impl<P: Parcel> Model for Place<P> {
-    ghost Value = { PlaceValue P.About P };
+impl<P: Parcel> Model for LanePlace<P> {
+    ghost Value = { LanePlaceValue P.About P };
 
     ghost view = { λ p. record { table = p.token.table_id; about = p.token.me.0.about; lane = p.lane; took = p.token.me.0.took; closed = p.token.me.0.closed } };
 

@@ -10,7 +10,7 @@ use crate::first::stay;
 use crate::key::{LaneKey, TeamKey};
 use crate::parcel::LaneParcel;
 use crate::serving::attend;
-use hand_over::{Desk, Parcels, Place};
+use hand_over::{Desk, LanePlace, Parcels};
 use std::alloc::Global;
 use std::marker::{Send, Sync};
 use std::sync::Wait;
@@ -32,7 +32,7 @@ fn in_a_scope<
     rt: &R,
     parcels: &Parcels<LaneParcel<K, M>>,
     desk: Desk<LaneParcel<K, M>>,
-    places: Vec<Place<LaneParcel<K, M>>>,
+    places: Vec<LanePlace<LaneParcel<K, M>>>,
     phases: usize,
     hand: H,
     lanes: Vec<M>,

@@ -4,7 +4,7 @@ ghost use Rattle.team_live.specs.Phases.{RunsTasks};
 
 use crate::key::LaneKey;
 use crate::parcel::LaneParcel;
-use hand_over::{Parcels, Place};
+use hand_over::{LanePlace, Parcels};
 use std::marker::Send;
 use std::sync::Wait;
 
@@ -12,7 +12,7 @@ use std::sync::Wait;
 fn serve<K: LaneKey<M> + Send, R: Wait, M: Drop + Send, T: Fn(usize, usize, &mut M)>(
     rt: &R,
     parcels: &Parcels<LaneParcel<K, M>>,
-    place: &mut Place<LaneParcel<K, M>>,
+    place: &mut LanePlace<LaneParcel<K, M>>,
     task: &T,
 )
     requires table { place.old.table ≡ parcels.now }
@@ -37,7 +37,7 @@ pub(crate) fn attend<
 >(
     rt: &R,
     parcels: &Parcels<LaneParcel<K, M>>,
-    place: Place<LaneParcel<K, M>>,
+    place: LanePlace<LaneParcel<K, M>>,
     lane: usize,
     task: &T,
     started: &S,

@@ -8,7 +8,7 @@ ghost use Rattle.shared_tests.specs.Turns.{AreAll, IsIdle, IsOut};
 mod scoped;
 mod turns;
 
-use hand_over::{Desk, Parcel, Parcels, Place};
+use hand_over::{Desk, LanePlace, Parcel, Parcels};
 use std::alloc::Global;
 use std::sync::{Arc, Wait};
 use std::test::Fail;
@@ -37,7 +37,7 @@ impl Parcel for Count {
 fn answer<R: Wait>(
     rt: &R,
     parcels: &Parcels<Count>,
-    place: &mut Place<Count>,
+    place: &mut LanePlace<Count>,
     more: u64,
 ) -> Option<u64>
     requires table { place.old.table ≡ parcels.now }
@@ -61,7 +61,7 @@ fn there_and_back<R: Wait>(
     rt: &R,
     parcels: &Parcels<Count>,
     mut desk: Desk<Count>,
-    mut place: Place<Count>,
+    mut place: LanePlace<Count>,
 ) -> (Option<u64>, u64, Option<u64>)
     requires desk { (desk.table ≡ parcels.now) × (turn_at desk.turns 1 ≡ Idle) }
     requires place { (place.table ≡ parcels.now) × (place.took ≡ None) }
@@ -82,7 +82,7 @@ fn a_parcel_goes_and_what_follows_it_comes_back(rt: HostRuntime) {
 }
 
 // Answers all parcels of a lane, until it is closed.
-fn serve<R: Wait>(rt: &R, parcels: &Parcels<Count>, place: &mut Place<Count>)
+fn serve<R: Wait>(rt: &R, parcels: &Parcels<Count>, place: &mut LanePlace<Count>)
     requires table { place.old.table ≡ parcels.now }
     requires none { place.old.took ≡ None }
 {
@@ -97,7 +97,7 @@ fn serve<R: Wait>(rt: &R, parcels: &Parcels<Count>, place: &mut Place<Count>)
 fn serve_all<R: Threads + Wait + Sync>(
     rt: &R,
     parcels: &Parcels<Count>,
-    places: &mut [Place<Count>],
+    places: &mut [LanePlace<Count>],
 )
     requires { All (λ place. (place.table ≡ parcels.now) × (place.took ≡ None)) places.old }
 {
@@ -212,7 +212,7 @@ fn all_at_once<R: Threads + Wait + Sync>(
     rt: &R,
     parcels: &Parcels<Count>,
     desk: Desk<Count>,
-    places: &mut [Place<Count>],
+    places: &mut [LanePlace<Count>],
 ) -> bool
     requires table { desk.table ≡ parcels.now }
     requires idle { AreAll 64 IsIdle desk.turns }

@@ -4,7 +4,7 @@ ghost use denote.Param.Send.{IsSync};
 ghost use Rattle.hand_over.specs.Views.{turn_at};
 ghost use Rattle.hand_over.specs.declared.view.Turn.TheVariants.{Idle};
 
-use hand_over::{Desk, Parcel, Parcels, Place};
+use hand_over::{Desk, LanePlace, Parcel, Parcels};
 use std::marker::PhantomData;
 use std::sync::Wait;
 use std::thread;
@@ -40,7 +40,7 @@ impl<K: Least> Parcel for Large<K> {
 fn passed<K: Least, R: Wait>(
     rt: &R,
     parcels: &Parcels<Large<K>>,
-    place: &mut Place<Large<K>>,
+    place: &mut LanePlace<Large<K>>,
 ) -> Option<u64>
     requires table { place.old.table ≡ parcels.now }
     requires none { place.old.took ≡ None }
@@ -55,7 +55,7 @@ fn passed<K: Least, R: Wait>(
 }
 
 // Gives back all parcels of a lane, until it is closed.
-fn echo<K: Least, R: Wait>(rt: &R, parcels: &Parcels<Large<K>>, mut place: Place<Large<K>>)
+fn echo<K: Least, R: Wait>(rt: &R, parcels: &Parcels<Large<K>>, mut place: LanePlace<Large<K>>)
     requires table { place.table ≡ parcels.now }
     requires none { place.took ≡ None }
 {
@@ -92,7 +92,7 @@ fn in_a_scope<R: Threads + Wait + Sync>(
     rt: &R,
     parcels: &Parcels<Large<Ten>>,
     desk: &mut Desk<Large<Ten>>,
-    place: Place<Large<Ten>>,
+    place: LanePlace<Large<Ten>>,
 ) -> Option<u64>
     requires desk { (desk.old.table ≡ parcels.now) × (turn_at desk.old.turns 0 ≡ Idle) }
     requires place { (place.table ≡ parcels.now) × (place.took ≡ None) }

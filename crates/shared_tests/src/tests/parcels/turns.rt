@@ -5,7 +5,7 @@ ghost use Rattle.hand_over.specs.Views.{turn_at};
 ghost use Rattle.hand_over.specs.declared.view.Turn.TheVariants.{Idle};
 
 use super::Count;
-use hand_over::{Desk, Parcels, Place};
+use hand_over::{Desk, LanePlace, Parcels};
 use std::sync::Wait;
 use std::sync::atomic::{AtomicBool, AtomicU64, Ordering};
 use std::thread;
@@ -70,7 +70,7 @@ impl Order {
 fn wait_at_place<R: Wait>(
     rt: &R,
     parcels: &Parcels<Count>,
-    mut place: Place<Count>,
+    mut place: LanePlace<Count>,
     order: &Order,
 ) -> Option<u64>
     requires table { place.table ≡ parcels.now }
@@ -109,7 +109,7 @@ fn at_both_ends<R: Threads + Wait + Sync>(
     rt: &R,
     parcels: &Parcels<Count>,
     desk: Desk<Count>,
-    place: Place<Count>,
+    place: LanePlace<Count>,
     order: &Order,
 ) -> (Option<u64>, u64)
     requires desk { (desk.table ≡ parcels.now) × (turn_at desk.turns 0 ≡ Idle) }
