@@ -1,4 +1,5 @@
-ghost use Rattle.std.specs.Prelude.{◌↔◌, IsTrue};
+ghost use Rattle.std.specs.Prelude.{◌≡◌, ◌↔◌, IsTrue};
+ghost use Rattle.log_format.specs.declared.record.Kind.TheVariants.{Update};
 ghost use Rattle.log_format.specs.Table.{AccessesMemory, ChangesMemory};
 
 /// The bytes of a record.
@@ -48,6 +49,14 @@ impl Kind {
         ensures { IsTrue result ↔ ChangesMemory self }
     {
         matches!(self, Kind::Write | Kind::Update)
+    }
+
+    /// Whether a record of this kind reads and changes memory in one step.
+    #[inline(always)]
+    pub fn is_update(self) -> bool
+        ensures { IsTrue result ↔ (self ≡ Update) }
+    {
+        matches!(self, Kind::Update)
     }
 }
 
