@@ -5,7 +5,7 @@ ghost use Rattle.race_model.specs.Race.{IsAccess, IsChange};
 ghost use Rattle.explain.specs.Witness.{ConflictAt, IsLeastByte};
 
 use crate::finding::Found;
-use log_format::{Kind, Record};
+use log_format::Record;
 
 /// Whether both are accesses, one of them changes memory, and not both update it.
 fn may_race(one: &Record, other: &Record) -> bool
@@ -14,7 +14,7 @@ fn may_race(one: &Record, other: &Record) -> bool
     one.kind.is_access()
         && other.kind.is_access()
         && (one.kind.is_change() || other.kind.is_change())
-        && !(one.kind == Kind::Update && other.kind == Kind::Update)
+        && !(one.kind.is_update() && other.kind.is_update())
 }
 
 /// The first byte that two accesses have in common.
