@@ -1,3 +1,4 @@
+pub mod AccessKinds
 pub mod Following
 pub mod Gaining
 pub mod InOrder

@@ -14,7 +14,7 @@ ghost use Rattle.span_label.specs.Levels.{own_level};
 ghost use Rattle.stride_summary.specs.Summary.{IsSummed};
 ghost use Rattle.stride_summary.specs.declared.summary.Summary.{Summary};
 ghost use Rattle.stride_summary.specs.declared.key.Key.{Key};
-ghost use Rattle.log_segment.specs.Accesses.{is_atomic, is_write, key_at};
+ghost use Rattle.log_segment.specs.Accesses.{key_at};
 ghost use Rattle.log_segment.specs.declared.segment.Segment.{Segment};
 ghost use Rattle.log_segment.specs.Walking.{AddsSegments, Follows, GainsAccess, HasSum, IsClosed, IsNextOf, IsOwnAfter, OrdersInLane, begun_after, ended_by, event_after, has_summary, open_after};
 
@@ -26,37 +26,6 @@ use span_label::Label;
 use std::alloc::Global;
 use stride_summary::{Access, Summary};
 use sw_base::{Memory, Path};
-
-fn is_write(kind: Kind) -> bool
-    ensures { result ≡ is_write kind }
-{
-    match kind {
-        Kind::Write | Kind::Update => true,
-        Kind::Read
-        | Kind::Lock
-        | Kind::Unlock
-        | Kind::Barrier
-        | Kind::Region
-        | Kind::Chunk
-        | Kind::End => false,
-    }
-}
-
-fn is_atomic(kind: Kind) -> bool
-    ensures { result ≡ is_atomic kind }
-{
-    match kind {
-        Kind::Update => true,
-        Kind::Read
-        | Kind::Write
-        | Kind::Lock
-        | Kind::Unlock
-        | Kind::Barrier
-        | Kind::Region
-        | Kind::Chunk
-        | Kind::End => false,
-    }
-}
 
 /// What is kept of the records of a log that were gone over.
 #[derive(Drop)]
@@ -207,8 +176,8 @@ impl Walk {
         ensures same { self.new ≡ record self.old { summary = self.new.summary; spare = self.new.spare } }
     {
         let access = Access {
-            write: is_write(event.kind),
-            atomic: is_atomic(event.kind),
+            write: event.kind.is_change(),
+            atomic: event.kind.is_update(),
             size: event.size,
             site: event.site,
             line: event.line,

@@ -3,10 +3,11 @@ use Rattle.std.proofs.Common.{◌≡◌, ◌↔◌, ◌⊎◌, ℕ, List, Contai
 use Rattle.sw_base.specs.declared.path.Step.{Step}
 use Rattle.log_format.specs.declared.record.Record.{Record}
 use Rattle.log_format.specs.declared.record.Kind.{Kind}
-use Rattle.log_format.specs.declared.record.Kind.TheVariants.{Write, Update}
+use Rattle.log_format.specs.declared.record.Kind.TheVariants.{Update}
 use Rattle.stride_summary.specs.declared.key.Key.{Key}
 use Rattle.log_segment.specs.declared.segment.Segment.{Segment}
-use Rattle.log_segment.specs.Accesses.{is_atomic, is_write}
+use Rattle.log_segment.specs.Accesses.{is_atomic}
+use Rattle.log_segment.proofs.AccessKinds.{changes_kind, update_kind}
 use Rattle.log_segment.specs.Intervals.{IsAccessAt, HasAccess, AreSegments}
 use Rattle.race_model.specs.Trace.{Logs, Node}
 use Rattle.race_model.specs.Race.{HasByte, IsChange, IsRacePair, held_at}
@@ -35,28 +36,6 @@ Touches-from logs x r key address byte is h =
     record { from_start = omega arith; to_end = omega arith }
 
 -- a record whose key writes changes memory, and one whose key is atomic is an update
-changes_kind : (kind : Kind) → IsTrue (is_write kind) ↔ ((kind ≡ Write) ⊎ (kind ≡ Update))
-changes_kind Kind.Read = ((λ h. cc), (λ h. elim h [ inl e ↦ cc | inr e ↦ cc ]))
-changes_kind Kind.Write = ((λ h. inl refl), (λ h. refl))
-changes_kind Kind.Lock = ((λ h. cc), (λ h. elim h [ inl e ↦ cc | inr e ↦ cc ]))
-changes_kind Kind.Unlock = ((λ h. cc), (λ h. elim h [ inl e ↦ cc | inr e ↦ cc ]))
-changes_kind Kind.Barrier = ((λ h. cc), (λ h. elim h [ inl e ↦ cc | inr e ↦ cc ]))
-changes_kind Kind.Region = ((λ h. cc), (λ h. elim h [ inl e ↦ cc | inr e ↦ cc ]))
-changes_kind Kind.Chunk = ((λ h. cc), (λ h. elim h [ inl e ↦ cc | inr e ↦ cc ]))
-changes_kind Kind.End = ((λ h. cc), (λ h. elim h [ inl e ↦ cc | inr e ↦ cc ]))
-changes_kind Kind.Update = ((λ h. inr refl), (λ h. refl))
-
-update_kind : (kind : Kind) → IsTrue (is_atomic kind) → kind ≡ Update
-update_kind Kind.Read h = cc
-update_kind Kind.Write h = cc
-update_kind Kind.Lock h = cc
-update_kind Kind.Unlock h = cc
-update_kind Kind.Barrier h = cc
-update_kind Kind.Region h = cc
-update_kind Kind.Chunk h = cc
-update_kind Kind.End h = cc
-update_kind Kind.Update h = refl
-
 pub changes_from : (logs : Logs) (x : Node) (r : Record) (key : Key) (address : ℕ) → IsAccessAt logs x r key address → IsTrue key.write ↔ IsChange r
 changes_from logs x r key address is = (
   λ w. (changes_kind r.kind).0 (subst (λ (k : Key). IsTrue k.write) is.keyed w),
