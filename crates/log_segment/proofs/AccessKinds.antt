@@ -1,8 +1,8 @@
 -- What a kind of record tells of an access.
-use Rattle.std.proofs.Common.{◌≡◌, ◌↔◌, ◌⊎◌, Bool, true, false, inl, inr, refl, sym, subst, IsTrue}
+use Rattle.std.proofs.Common.{◌≡◌, ◌↔◌, Bool, true, false, inl, inr, refl, sym, subst, IsTrue}
 use Rattle.log_format.specs.Table.{ChangesMemory}
 use Rattle.log_format.specs.declared.record.Kind.{Kind}
-use Rattle.log_format.specs.declared.record.Kind.TheVariants.{Write, Update}
+use Rattle.log_format.specs.declared.record.Kind.TheVariants.{Update}
 use Rattle.log_segment.specs.Accesses.{is_atomic, is_write}
 
 -- a kind that writes changes memory, and one that is atomic is the update
