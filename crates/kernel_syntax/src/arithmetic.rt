@@ -6,6 +6,7 @@ ghost use Rattle.kernel_syntax.specs.Arithmetic.{applied, truth};
 use crate::syntax::Op;
 
 /// The operation on two values. None exactly where a quotient or remainder has the divisor 0.
+#[inline(always)]
 pub fn apply(op: Op, left: i64, right: i64) -> Option<i64>
     ensures { result ≡ applied op left right }
 {

@@ -1,6 +1,5 @@
 //! The value of an expression.
-ghost use Rattle.std.specs.Prelude.{◌≡◌, List, ℤ, ok_or};
-ghost use Rattle.kernel_syntax.specs.Arithmetic.{applied};
+ghost use Rattle.std.specs.Prelude.{◌≡◌, List, ℤ};
 ghost use Rattle.kernel_syntax.specs.Bounds.{IsBoundedTerm, IsPlace};
 ghost use Rattle.kernel_syntax.specs.Program.{term_of};
 ghost use Rattle.kernel_model.specs.Value.{element_at, loaded, value};
@@ -12,13 +11,13 @@ use crate::stop::Stop;
 use crate::track::Track;
 use crate::world::World;
 use kernel_model::negate;
-use kernel_syntax::{Expr, Op, apply};
+use kernel_syntax::Expr;
 use std::alloc::Global;
 use std::marker::Send;
 use std::sync::Wait;
 use std::thread::Threads;
 use sw_base::Log;
-use task_place::{Locals, left_by, left_depth};
+use task_place::{Locals, left_by, left_depth, operate};
 
 // How many left operands, one within the other, are followed by calls. Deeper ones are followed by halves, which is slower and needs less stack.
 const CALLS: usize = 32;
@@ -44,14 +43,6 @@ fn load<L: Log, R: Threads + Wait + Copy + Send + 'static>(
         return Err(Stop::Index { line });
     };
     track.read(rt, alloc, world, &element, line, place)
-}
-
-// The operation on two values, or the stop of a zero divisor. It is inlined, so that its answer doesn't go through memory.
-#[inline(always)]
-fn operate(op: Op, line: u32, left: i64, right: i64) -> Result<i64, Stop>
-    ensures { result ≡ ok_or (applied op left right) (Stop.DivZero line) }
-{
-    apply(op, left, right).ok_or(Stop::DivZero { line })
 }
 
 // The value of an operation from that of its left operand. What is no operation has this value itself.
@@ -81,7 +72,7 @@ fn top<L: Log, R: Threads + Wait + Copy + Send + 'static>(
             ..
         } => {
             let second = valued(rt, alloc, world, locals, track, right, calls)?;
-            operate(*op, *line, first, second)
+            operate(*op, first, second, Stop::DivZero { line: *line })
         }
         _ => Ok(first),
     }

@@ -34,6 +34,7 @@ pub fn left_by(expr: &Expr, levels: usize) -> &Expr
 }
 
 /// The operation on two values; or this, where the divisor is 0.
+#[inline(always)]
 pub fn operate<E: Drop>(op: Op, left: i64, right: i64, stop: E) -> Result<i64, E>
     ensures { result ≡ ok_or (applied op left right) stop }
 {
