@@ -1,13 +1,13 @@
 -- A sweep over hulls in order of their first bytes finds the pairs of all of them.
-use Rattle.std.proofs.Common.{◌≡◌, ◌⊎◌, ℕ, ◌+◌, ◌<◌, ◌≤◌, List, [], ◌∷◌, ◌++◌, drop, take, length, get_or, min, max, Contains, inl, inr, refl, sym, ap, ◌∙◌, subst, arith, length-append, append_assoc, append-nil}
+use Rattle.std.proofs.Common.{◌≡◌, ◌⊎◌, ℕ, ◌+◌, ◌<◌, ◌≤◌, All, List, [], ◌∷◌, ◌++◌, drop, take, length, get_or, min, max, Contains, inl, inr, refl, sym, ap, ◌∙◌, subst, arith, length-append, append_assoc, append-nil}
 use Rattle.std.specs.List.Sorted.{IsNonDecreasingBy}
 use Rattle.std.proofs.lemmas.Bool.{cases_order}
 use Rattle.std.proofs.lemmas.List.{get_or-append-add, get_or-take, get_or_append_left, get_or_default, length-take-le, take-append-drop, take_more}
 use Rattle.std.proofs.Math.Seq.{drop-append-add, drop-length}
-use Rattle.std.proofs.lemmas.List.Elements.{Contains-append_cases, Contains-append_left, Contains-append_right, Contains-push, Contains-push_cases}
+use Rattle.std.proofs.lemmas.List.Elements.{All-contains, Contains-append_cases, Contains-append_left, Contains-append_right, Contains-push, Contains-push_cases}
 use Rattle.stride_summary.specs.declared.run.Run.{Run}
 use Rattle.pair_compare.specs.Conflict.{AddsPairs, IsLinesOf, IsRunPair, OneHas}
-use Rattle.pair_compare.specs.Sweeps.{AddsHull, AddsHulls, AreOfKind, DropsEnded, IsActive, IsHullOf, IsHullPair, IsMetPair, IsReachedPair, Reach, DropsOnlyEnded, reach_of}
+use Rattle.pair_compare.specs.Sweeps.{AddsHull, AddsHulls, AreOfKind, DropsEnded, IsActive, IsHullOf, IsHullPair, IsMetPair, IsReachedPair, OpensHulls, Reach, DropsOnlyEnded, reach_of}
 use Rattle.pair_compare.specs.declared.active.Active.{Active}
 use Rattle.pair_compare.specs.declared.hull.Hull.{Hull}
 use Rattle.pair_compare.proofs.Adds.{AddsPairs-both, AddsPairs-same, OneHas-cons, OneHas-first, not_in_nothing}
@@ -174,6 +174,27 @@ settles_none active kinds hulls = record { kept = λ other byte h long low. h; o
 pub puts_none : (active : Active) → AreOfKind active → (hulls : List Hull) → AddsHulls (take 0 hulls) active active
 puts_none active kinds hulls = record { own = λ hull h. absurd (not_in_nothing hull h); kept = λ other h. h; only = λ other h. inl h; kinds = kinds }
 
+-- no hull is put that ends before the later ones begin
+pub opens_none : (block later : List Hull) (active : Active) → AreOfKind active → ((hull other : Hull) → Contains block hull → Contains later other → hull.high < other.low) → OpensHulls block later active active
+opens_none block later active kinds ends = record { own = λ hull other h inside. inr (ends hull other h inside); kept = λ other h. h; only = λ other h. inl h; kinds = kinds }
+
+pub opens_all : (block later : List Hull) (a0 a1 : Active) → AddsHulls block a0 a1 → OpensHulls block later a0 a1
+opens_all block later a0 a1 puts = record { own = λ hull other h inside. inl (puts.own hull h); kept = puts.kept; only = puts.only; kinds = puts.kinds }
+
+-- where none is active, none is reached
+pub reaches_none : (from : ℕ) (keys : List (ℕ × ℕ)) (active : Active) (hulls : List Hull) → ((hull : Hull) → IsActive active hull → ⊥) → AddsPairs keys keys (OneHas (λ hull. IsReachedPair from hull active) hulls)
+reaches_none from keys active hulls never = record { kept = λ pair h. h; added = λ pair h. absurd (never h.has.two.other h.has.two.among); only = λ pair h. inl h }
+
+-- what ends before the first of the later hulls, which are in order, ends before all of them
+pub before_all : (block later : List Hull) (next : Hull) → IsNonDecreasingBy (λ hull. hull.low) later → next ≡ get_or later 0 next → All (λ hull. hull.high < next.low) block
+    → (hull other : Hull) → Contains block hull → Contains later other → hull.high < other.low
+before_all block later next up first under hull other h (place, inside, at) =
+    let ends : hull.high < next.low = All-contains (λ (hull : Hull). hull.high < next.low) block hull under h in
+    let least : (get_or later 0 next).low ≤ (get_or later place next).low = up 0 place next (omega arith) inside in
+    let here : get_or later place next ≡ other = get_or_default later place next other inside ∙ at in
+    let low : next.low ≤ other.low = subst (λ (h : Hull). next.low ≤ h.low) here (subst (λ (h : Hull). h.low ≤ (get_or later place next).low) (sym first) least) in
+    omega arith
+
 pub reached_none : (from : ℕ) (keys : List (ℕ × ℕ)) (active : Active) (hulls : List Hull) → AddsPairs keys keys (OneHas (λ hull. IsReachedPair from hull active) (take 0 hulls))
 reached_none from keys active hulls = record { kept = λ pair h. h; added = λ pair h. absurd (not_in_nothing h.one h.listed); only = λ pair h. inl h }
 
@@ -269,7 +290,7 @@ module _ (from : ℕ) (hulls rest block later : List Hull) (up : IsNonDecreasing
   rest_has : (hull : Hull) → Contains (block ++ later) hull → Contains rest hull
   rest_has hull h = subst (λ (hs : List Hull). Contains hs hull) (sym whole) h
 
-  pub swept_more : ((a b : Hull) → Contains block a → Contains block b → a.part ≡ b.part) → DropsOnlyEnded block a0 a1 → AddsPairs k1 k2 (OneHas (λ hull. IsReachedPair from hull a0) block) → AddsHulls block a1 a2 → IsSwept from hulls later k0 k2 a2
+  pub swept_more : ((a b : Hull) → Contains block a → Contains block b → a.part ≡ b.part) → DropsOnlyEnded block a0 a1 → AddsPairs k1 k2 (OneHas (λ hull. IsReachedPair from hull a0) block) → OpensHulls block later a1 a2 → IsSwept from hulls later k0 k2 a2
   swept_more alike settles adds puts = record {
     done = done ++ block;
     split = next;
@@ -288,7 +309,7 @@ module _ (from : ℕ) (hulls rest block later : List Hull) (up : IsNonDecreasing
           ]
           | inr ends ↦ inr ends
         ]
-        | inr own ↦ inl (puts.own hull own)
+        | inr own ↦ puts.own hull other own inside
       ];
       kinds = puts.kinds;
     };

@@ -97,6 +97,13 @@ pub record AddsHulls (hulls : List Hull) (old new : Active) : Type 0 where
   pub only : (other : Hull) → IsActive new other → IsActive old other ⊎ Contains hulls other
   pub kinds : AreOfKind new
 
+-- the hulls that a later one may meet are active, too
+pub record OpensHulls (hulls later : List Hull) (old new : Active) : Type 0 where
+  pub own : (hull other : Hull) → Contains hulls hull → Contains later other → IsActive new hull ⊎ (hull.high < other.low)
+  pub kept : (other : Hull) → IsActive old other → IsActive new other
+  pub only : (other : Hull) → IsActive new other → IsActive old other ⊎ Contains hulls other
+  pub kinds : AreOfKind new
+
 -- the line pair of the hull and an active one, where the hull doesn't begin before the byte
 pub record IsActivePair (from : ℕ) (hull : Hull) (active : Active) (pair : ℕ × ℕ) : Type 0 where
   pub late : from ≤ hull.low

@@ -1,4 +1,4 @@
-ghost use Rattle.std.specs.Prelude.{[], ◌≡◌, OnOk};
+ghost use Rattle.std.specs.Prelude.{[], ◌≡◌, IsTrue, OnOk};
 ghost use Rattle.pair_compare.specs.Sweeps.{AddsHull, AreOfKind, DropsBefore, DropsEnded, IsActive};
 
 use crate::hull::Hull;
@@ -56,6 +56,13 @@ impl<'r> Active<'r> {
             updates: Hulls::new(alloc),
             writes: Hulls::new(alloc),
         }
+    }
+
+    /// Whether there is no hull.
+    pub fn is_empty(&self) -> bool
+        ensures { IsTrue result → (hull : _) → IsActive self.now hull → ⊥ }
+    {
+        self.reads.list.is_empty() && self.updates.list.is_empty() && self.writes.list.is_empty()
     }
 
     /// Drops what ends before this hull, but only where it may meet them, or where there are many.

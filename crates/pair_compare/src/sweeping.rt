@@ -1,7 +1,7 @@
-ghost use Rattle.std.specs.Prelude.{◌≡◌, ◌<◌, ◌≤◌, ℕ, Contains, false, length, slice_index_or, OnOk};
+ghost use Rattle.std.specs.Prelude.{◌≡◌, ◌<◌, ◌≤◌, ℕ, All, Contains, IsTrue, false, length, slice_index_or, OnOk};
 ghost use Rattle.std.specs.List.Sorted.{IsNonDecreasingBy};
 ghost use Rattle.pair_compare.specs.Conflict.{AddsPairs, IsRunConflict, OneHas};
-ghost use Rattle.pair_compare.specs.Sweeps.{AddsHulls, AreOfKind, DropsEnded, IsActivePair, IsHullOf, IsHullPair, IsMetPair, IsReachedPair, DropsOnlyEnded};
+ghost use Rattle.pair_compare.specs.Sweeps.{AddsHulls, AreOfKind, OpensHulls, DropsEnded, IsActivePair, IsHullOf, IsHullPair, IsMetPair, IsReachedPair, DropsOnlyEnded};
 ghost use Rattle.pair_compare.specs.declared.hull.Hull.{Hull};
 
 use crate::active::Active;
@@ -91,6 +91,9 @@ fn meet_block<'r>(
     ensures active { OnOk result (DropsOnlyEnded block.now active.old active.new) }
     ensures added { OnOk result (AddsPairs pairs.old.keys pairs.new.keys (OneHas (λ hull. IsReachedPair from hull active.old) block.now)) }
 {
+    if active.is_empty() {
+        return Ok(());
+    }
     for hull in block {
         step(hull, from, active, pairs)?;
     }
@@ -105,6 +108,35 @@ fn put_all<'r>(block: &[Hull<'r>], active: &mut Active<'r>) -> Result<(), Memory
         active.put(hull)?;
     }
     Ok(())
+}
+
+fn end_under(hulls: &[Hull], byte: u64) -> bool
+    ensures { IsTrue result → All (λ hull. hull.high < byte) hulls.now }
+{
+    hulls.iter().all(|hull| hull.high < byte)
+}
+
+// Whether the hulls of the block end before the later ones begin.
+fn end_before(block: &[Hull], later: &[Hull]) -> bool
+    requires { IsNonDecreasingBy (λ hull. hull.low) later.now }
+    ensures { IsTrue result → (hull other : Hull) → Contains block.now hull → Contains later.now other → hull.high < other.low }
+{
+    let Some(next) = later.first() else {
+        return true;
+    };
+    end_under(block, next.low)
+}
+
+// Has the hulls be active, if a later one may meet them.
+fn put_open<'r>(block: &[Hull<'r>], later: &[Hull], active: &mut Active<'r>) -> Result<(), Memory>
+    requires kinds { AreOfKind active.old }
+    requires rising { IsNonDecreasingBy (λ hull. hull.low) later.now }
+    ensures { OnOk result (OpensHulls block.now later.now active.old active.new) }
+{
+    if end_before(block, later) {
+        return Ok(());
+    }
+    put_all(block, active)
 }
 
 // How many of the first hulls are of one part.
@@ -137,9 +169,9 @@ pub fn sweep(
     'parts: while start < hulls.len() {
         let (_, rest) = hulls.split_at(start);
         let count = part_count(rest);
-        let (block, _) = rest.split_at(count);
+        let (block, later) = rest.split_at(count);
         meet_block(block, from, &mut active, pairs)?;
-        put_all(block, &mut active)?;
+        put_open(block, later, &mut active)?;
         start += count;
     }
     Ok(())

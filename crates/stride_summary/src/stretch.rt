@@ -39,6 +39,17 @@ fn sort(numbers: &mut Vec<u64>)
     }
 }
 
+// Whether each number is less than the next.
+fn ascend(numbers: &[u64]) -> bool
+    ensures { IsTrue result → IsStrictlyIncreasing numbers.now }
+{
+    let mut count = 1;
+    'ascend: while count < numbers.len() && numbers[count - 1] < numbers[count] {
+        count += 1;
+    }
+    count >= numbers.len()
+}
+
 impl Stretch {
     /// No address so far.
     pub fn new(alloc: Global, key: Key) -> Stretch
@@ -63,6 +74,9 @@ impl Stretch {
         ensures fewer { vec_len self.new.addresses ≤ vec_len self.old.addresses }
         ensures limit { self.new.limit ≡ self.old.limit }
     {
+        if ascend(&self.addresses) {
+            return;
+        }
         sort(&mut self.addresses);
         self.addresses.dedup();
     }

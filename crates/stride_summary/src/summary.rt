@@ -88,6 +88,20 @@ fn hand_out(alloc: Global, runs: &mut Vec<Run>) -> Vec<Run>
     mem::replace(runs, Vec::new(alloc))
 }
 
+// Makes room for so many runs where there is none, and copies nothing, unlike a vector that grows.
+fn make_run_room(alloc: Global, runs: &mut Vec<Run>, count: usize) -> Result<(), Memory>
+    requires { vec_len runs.old ≡ 0 }
+    ensures room { OnOk result (count ≤ vec_capacity runs.new) }
+    ensures more { vec_capacity runs.old ≤ vec_capacity runs.new }
+    ensures none { vec_len runs.new ≡ 0 }
+{
+    if count > runs.capacity() {
+        let more = count.max(runs.capacity().saturating_mul(2));
+        *runs = Vec::with_capacity(alloc, more)?;
+    }
+    Ok(())
+}
+
 // Whether this is the place of the access's key.
 fn is_at(stretches: &[Stretch], place: usize, access: &Access) -> bool
     ensures { IsTrue result → IsPlaceOf stretches.now (access_key access.now) place }
@@ -227,7 +241,8 @@ impl Summary {
     {
         self.settle_singles();
         let limit = self.singles.next_limit();
-        self.runs.reserve(self.room.saturating_add(limit))?;
+        let count = self.room.saturating_add(limit);
+        make_run_room(self.alloc, &mut self.runs, count)?;
         self.singles.grow(limit)
     }
 
@@ -336,7 +351,7 @@ impl Summary {
     {
         let before = half(self.stretches[place].limit);
         let room = self.room - before + half(limit);
-        self.runs.reserve(room + self.singles.limit)?;
+        make_run_room(self.alloc, &mut self.runs, room + self.singles.limit)?;
         self.stretches[place].raise(limit);
         self.room = room;
         Ok(())

@@ -4,8 +4,11 @@ use Rattle.pair_compare.specs.Conflict.{AddsPairs, OneHas}
 use Rattle.pair_compare.specs.Sweeps.{IsReachedPair}
 use Rattle.pair_compare.specs.declared.hull.Hull.{Hull}
 use Rattle.pair_compare.proofs.Adds.{AddsPairs-next}
-use Rattle.pair_compare.proofs.Swept.{reached_before, reached_none, settles_more, settles_none}
+use Rattle.pair_compare.proofs.Swept.{reached_before, reached_none, reaches_none, settles_more, settles_none}
 use Rattle.pair_compare.proofs.sweeping.meet_block.Goals as goal
+
+pub returns-then-is_empty-clause-added : goal.returns-then-is_empty-clause-added
+returns-then-is_empty-clause-added c = reaches_none c.args.from c.args.pairs.now.keys c.args.active.now c.args.block.now (c.is_empty.ensures c.if-is_empty.true)
 
 pub loop-hull-init : goal.loop-hull-init
 loop-hull-init c = record { active = settles_none c.args.active.now c.requires.kinds c.args.block.now; added = reached_none c.args.from c.args.pairs.now.keys c.args.active.now c.args.block.now }

@@ -22,9 +22,9 @@ parts-preserved c =
     let whole : rest ≡ block ++ c.split_at-in-parts.result.1.now = search rules in
     let later : c.split_at-in-parts.result.1.now ≡ drop (c.parts.start + c.part_count-count.result) c.args.hulls.now = c.split_at-in-parts.ensures.back ∙ ap (λ (hs : List Hull). drop c.part_count-count.result hs) c.split_at.ensures.back ∙ drop_twice c.parts.start c.part_count-count.result c.args.hulls.now c.parts.invariant.within in
     record {
-      swept = subst (λ (hs : List Hull). IsSwept c.args.from c.args.hulls.now hs c.args.pairs.now.keys c.meet_block.new.pairs.keys c.put_all.new.active) later
-          (swept_more c.args.from c.args.hulls.now rest block c.split_at-in-parts.result.1.now c.requires c.args.pairs.now.keys c.parts.pairs.keys c.meet_block.new.pairs.keys c.parts.active c.meet_block.new.active c.put_all.new.active so_far whole
-          (of_one_part rest block c.part_count-count.result c.split_at-in-parts.ensures.front c.part_count-count.ensures.within.1 c.part_count-count.ensures.alike) c.in_ok-meet_block.ensures.active c.in_ok-meet_block.ensures.added c.in_ok-put_all.ensures);
+      swept = subst (λ (hs : List Hull). IsSwept c.args.from c.args.hulls.now hs c.args.pairs.now.keys c.meet_block.new.pairs.keys c.put_open.new.active) later
+          (swept_more c.args.from c.args.hulls.now rest block c.split_at-in-parts.result.1.now c.requires c.args.pairs.now.keys c.parts.pairs.keys c.meet_block.new.pairs.keys c.parts.active c.meet_block.new.active c.put_open.new.active so_far whole
+          (of_one_part rest block c.part_count-count.result c.split_at-in-parts.ensures.front c.part_count-count.ensures.within.1 c.part_count-count.ensures.alike) c.in_ok-meet_block.ensures.active c.in_ok-meet_block.ensures.added c.in_ok-put_open.ensures);
       within = search rules;
     }
 
