@@ -47,7 +47,7 @@ log t-0.0.swl records 10
 2 write 8 site 0 line 6 addr 4104 value 0
 ...";
 
-const EXAMPLES: Case<'static> = Case {
+const EXAMPLES: &[Case<'static>] = &[Case {
     held: &[
         ("shift.kernel", SHIFT),
         ("count.kernel", COUNT),
@@ -96,9 +96,9 @@ const EXAMPLES: Case<'static> = Case {
     ],
     left: &[("stopped/index.swi", None)],
     ..EMPTY
-};
+}];
 
 #[test]
 fn the_examples_print_what_the_readme_says(rt: HostRuntime) {
-    all_pass(&rt, rt.alloc(), &[EXAMPLES]);
+    all_pass(&rt, rt.alloc(), EXAMPLES);
 }

@@ -1,10 +1,9 @@
 //! Each call on the folder, on the output and on a log fails in turn, in each command.
 
-use crate::tests::fixtures::{
-    BARRIER, Calls, Case, EMPTY, END, REPLAY, ROOT, Rec, SHOW, Task, each_call_may_fail,
-};
-use crate::{region, store};
-use command_answer::{DIFFERS, DONE, FOLDER_REFUSED, KERNEL_STOPPED, RACES};
+use super::verdicts::{HEAT, SHIFT};
+use crate::tests::fixtures::{CERTIFY, Calls, Case, EMPTY, REPLAY, SHOW, all_calls_may_fail};
+use command_answer::{DIFFERS, DONE, FOLDER_REFUSED, KERNEL_STOPPED, RACES, UNCERTAIN};
+use made_folders::{BARRIER, END, ROOT, Rec, Task, region, store};
 
 // No call at all.
 const NONE: Calls<'static> = Calls {
@@ -61,12 +60,6 @@ const STOPS: Calls<'static> = Calls {
     ..NONE
 };
 
-#[test]
-fn each_call_of_a_run_may_fail(rt: HostRuntime) {
-    each_call_may_fail(&rt, rt.alloc(), &ENDS);
-    each_call_may_fail(&rt, rt.alloc(), &STOPS);
-}
-
 const CHECK: &[&str] = &["check", "d", "2"];
 
 // Lane 1 reads the element that lane 0 writes.
@@ -99,12 +92,6 @@ const CUT: Calls<'static> = Calls {
     reads: 6,
     ..NONE
 };
-
-#[test]
-fn each_call_of_a_check_may_fail(rt: HostRuntime) {
-    each_call_may_fail(&rt, rt.alloc(), &RACES_FOUND);
-    each_call_may_fail(&rt, rt.alloc(), &CUT);
-}
 
 // Each lane of two forks two, of which each stores a local of the outer lane.
 const NESTED: &str = "array a i64 4
@@ -160,22 +147,11 @@ const DIFFERING: Calls<'static> = Calls {
     ..NONE
 };
 
-#[test]
-fn each_call_of_a_replay_may_fail(rt: HostRuntime) {
-    each_call_may_fail(&rt, rt.alloc(), &SAME);
-    each_call_may_fail(&rt, rt.alloc(), &DIFFERING);
-}
-
 const SHOWN: Calls<'static> = Calls {
     case: nested!(6, &[(SHOW, DONE, "log t.swl records 2\n...")]),
     reads: 17,
     ..NONE
 };
-
-#[test]
-fn each_call_of_a_show_may_fail(rt: HostRuntime) {
-    each_call_may_fail(&rt, rt.alloc(), &SHOWN);
-}
 
 // It makes no call on the folder.
 const GENERATED: Calls<'static> = Calls {
@@ -191,11 +167,6 @@ const GENERATED: Calls<'static> = Calls {
     ..NONE
 };
 
-#[test]
-fn each_write_of_a_generated_report_may_fail(rt: HostRuntime) {
-    each_call_may_fail(&rt, rt.alloc(), &GENERATED);
-}
-
 // Between the logs that it puts it reads the next one.
 const BROUGHT: Calls<'static> = Calls {
     case: Case {
@@ -209,11 +180,6 @@ const BROUGHT: Calls<'static> = Calls {
     made: &["e/t.swl", "e/t-0.0.swl", "e/t-0.1.swl", "e/index.swi"],
     ..NONE
 };
-
-#[test]
-fn each_call_of_an_upgrade_may_fail(rt: HostRuntime) {
-    each_call_may_fail(&rt, rt.alloc(), &BROUGHT);
-}
 
 const EXPLAINED: Calls<'static> = Calls {
     case: Case {
@@ -241,8 +207,49 @@ const CONFIRMED: Calls<'static> = Calls {
     ..NONE
 };
 
+// The kernel's size and its bytes are asked for, and each line of the report is printed alone.
+const RACY: Calls<'static> = Calls {
+    case: Case {
+        held: &[("k", SHIFT)],
+        asked: &[(CERTIFY, UNCERTAIN, "race 3 3\nraces 1\nuncertain: races\n")],
+        ..EMPTY
+    },
+    reads: 2,
+    prints: 3,
+    ..NONE
+};
+
+const CERTAIN: Calls<'static> = Calls {
+    case: Case {
+        held: &[("k", HEAT)],
+        asked: &[(
+            CERTIFY,
+            DONE,
+            "certain\ntasks 5\nrecords 1147\nsum u 1592\nsum v 592\n",
+        )],
+        ..EMPTY
+    },
+    prints: 1,
+    ..RACY
+};
+
+const ALL: &[Calls<'static>] = &[
+    ENDS,
+    STOPS,
+    RACES_FOUND,
+    CUT,
+    SAME,
+    DIFFERING,
+    SHOWN,
+    GENERATED,
+    BROUGHT,
+    EXPLAINED,
+    CONFIRMED,
+    RACY,
+    CERTAIN,
+];
+
 #[test]
-fn each_call_of_a_witness_may_fail(rt: HostRuntime) {
-    each_call_may_fail(&rt, rt.alloc(), &EXPLAINED);
-    each_call_may_fail(&rt, rt.alloc(), &CONFIRMED);
+fn each_call_of_each_command_may_fail(rt: HostRuntime) {
+    all_calls_may_fail(&rt, rt.alloc(), ALL);
 }

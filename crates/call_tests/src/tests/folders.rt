@@ -1,10 +1,10 @@
-//! Folders by hand: what `check` and `show` print of them, and the usage line.
+//! Folders by hand, and generated ones: what `check` and `show` print of them; and the usage line.
 
 use crate::tests::fixtures::{
-    BARRIER, Case, EMPTY, END, Question, ROOT, Rec, SHOW, Step, USAGE_LINE, all_pass, answers,
+    Case, EMPTY, Question, SHOW, Subject, USAGE_LINE, all_pass, answers, each_passes,
 };
-use crate::{lock, region, store, unlock};
 use command_answer::{DONE, FOLDER_REFUSED, KERNEL_REFUSED, RACES, USAGE};
+use made_folders::{BARRIER, END, ROOT, Rec, Step, lock, region, store, unlock};
 use memory_environment::MemFolder;
 use std::alloc::Global;
 use std::marker::Send;
@@ -42,11 +42,6 @@ const SHARING: &[Case<'static>] = &[
         ..EMPTY
     },
 ];
-
-#[test]
-fn lanes_that_share_a_byte_race(rt: HostRuntime) {
-    all_pass(&rt, rt.alloc(), SHARING);
-}
 
 const LOCKED: &[Rec] = &[lock!(5, 1), store!(5, 4096), unlock!(5, 1), END];
 
@@ -134,11 +129,6 @@ const EXCLUDED: &[Case<'static>] = &[
     },
 ];
 
-#[test]
-fn only_a_common_mutex_excludes(rt: HostRuntime) {
-    all_pass(&rt, rt.alloc(), EXCLUDED);
-}
-
 const INNER_0: &[Rec] = &[store!(4, 4096), END];
 
 const INNER_1: &[Rec] = &[store!(4, 4104), END];
@@ -208,11 +198,6 @@ const PARTED: &[Case<'static>] = &[
     },
 ];
 
-#[test]
-fn barriers_order_at_every_depth(rt: HostRuntime) {
-    all_pass(&rt, rt.alloc(), PARTED);
-}
-
 const IN_TURN: Case<'static> = Case {
     tasks: &[
         (&[], &[region!(3, 2), region!(4, 2), END]),
@@ -224,11 +209,6 @@ const IN_TURN: Case<'static> = Case {
     asked: &[(&["check", "d", "1"], DONE, NO_RACE)],
     ..EMPTY
 };
-
-#[test]
-fn regions_in_turn_are_ordered(rt: HostRuntime) {
-    all_pass(&rt, rt.alloc(), &[IN_TURN]);
-}
 
 const UNEQUAL: &str = "bad log t-0.1.swl record 1: BarrierCount\n";
 
@@ -314,11 +294,6 @@ const REFUSED: &[Case<'static>] = &[
     },
 ];
 
-#[test]
-fn a_bad_folder_is_refused_where_it_is_bad_first(rt: HostRuntime) {
-    all_pass(&rt, rt.alloc(), REFUSED);
-}
-
 const SHOWN: &[Case<'static>] = &[
     Case {
         tasks: &[(
@@ -355,11 +330,6 @@ const SHOWN: &[Case<'static>] = &[
         ..EMPTY
     },
 ];
-
-#[test]
-fn records_are_shown(rt: HostRuntime) {
-    all_pass(&rt, rt.alloc(), SHOWN);
-}
 
 const OTHER_WORDS: Case<'static> = Case {
     asked: &[
@@ -426,11 +396,6 @@ const OTHER_WORDS: Case<'static> = Case {
     ..EMPTY
 };
 
-#[test]
-fn other_arguments_are_a_usage_fault(rt: HostRuntime) {
-    all_pass(&rt, rt.alloc(), &[OTHER_WORDS]);
-}
-
 // What is answered where there is no file, with a name in the place of NAME.
 const NAMED: &[Question<'static>] = &[
     (&["check", "NAME", "1"], FOLDER_REFUSED, "no index\n"),
@@ -487,4 +452,58 @@ fn answers_named<R: Abort + Threads + Wait + Sync + Copy + Send + 'static>(
 fn a_name_has_at_most_1024_bytes(rt: HostRuntime) {
     answers_named(&rt, rt.alloc(), 1024, true);
     answers_named(&rt, rt.alloc(), 1025, false);
+}
+
+const GENERATED: &[Case<'static>] = &[Case {
+    asked: &[
+        (
+            &["gen", "1", "1"],
+            RACES,
+            "accesses 17\nsegments 16\nrace 30 40\nraces 1\n",
+        ),
+        (
+            &["gen", "4", "2"],
+            RACES,
+            "accesses 65\nsegments 16\nrace 30 40\nraces 1\n",
+        ),
+        (
+            &["gen", "100000", "8"],
+            RACES,
+            "accesses 1600001\nsegments 16\nrace 30 40\nraces 1\n",
+        ),
+    ],
+    left: &[("g/index.swi", None)],
+    ..EMPTY
+}];
+
+#[test]
+fn a_generated_run_has_one_race(rt: HostRuntime) {
+    all_pass(&rt, rt.alloc(), GENERATED);
+}
+
+const ORDERED: &[Subject<'static>] = &[
+    ("lanes that share a byte race", SHARING),
+    ("only a common mutex excludes", EXCLUDED),
+    ("barriers order at every depth", PARTED),
+    ("regions in turn are ordered", &[IN_TURN]),
+];
+
+#[test]
+fn lanes_that_share_a_byte_race_unless_ordered_or_excluded(rt: HostRuntime) {
+    each_passes(&rt, rt.alloc(), ORDERED);
+}
+
+#[test]
+fn a_bad_folder_is_refused_where_it_is_bad_first(rt: HostRuntime) {
+    all_pass(&rt, rt.alloc(), REFUSED);
+}
+
+#[test]
+fn records_are_shown(rt: HostRuntime) {
+    all_pass(&rt, rt.alloc(), SHOWN);
+}
+
+#[test]
+fn other_arguments_are_a_usage_fault(rt: HostRuntime) {
+    all_pass(&rt, rt.alloc(), &[OTHER_WORDS]);
 }

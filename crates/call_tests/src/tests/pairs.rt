@@ -387,16 +387,8 @@ const VERDICTS: &[Verdict<'static>] = &[
 ];
 
 #[test]
-fn each_has_its_verdict(rt: HostRuntime) {
-    all_judged(&rt, rt.alloc(), VERDICTS);
-}
-
-#[test]
-fn mended_kernels_have_no_race(rt: HostRuntime) {
+fn each_races_or_not_and_has_its_verdict(rt: HostRuntime) {
     all_run(&rt, rt.alloc(), "4", MENDED);
-}
-
-#[test]
-fn each_of_the_others_races_at_one_pair_of_lines(rt: HostRuntime) {
     all_run(&rt, rt.alloc(), "4", RACING);
+    all_judged(&rt, rt.alloc(), VERDICTS);
 }

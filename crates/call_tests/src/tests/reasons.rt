@@ -1,8 +1,8 @@
 //! The text of each reason for which a folder is refused.
 
-use crate::tests::fixtures::{BARRIER, Case, EMPTY, END, ROOT, Rec, Subject, answers, each_passes};
-use crate::{lock, region, unlock};
+use crate::tests::fixtures::{Case, EMPTY, Subject, answers, each_passes};
 use command_answer::FOLDER_REFUSED;
+use made_folders::{BARRIER, END, ROOT, Rec, lock, region, unlock};
 use memory_environment::MemFolder;
 use std::alloc::Global;
 use std::process::Abort;

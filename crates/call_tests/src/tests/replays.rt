@@ -1,11 +1,10 @@
 //! `replay`: folders against their kernels and against others, and why there is no comparison.
 
 use crate::tests::fixtures::{
-    Case, EMPTY, END, REPLAY, ROOT, RUN, Rec, Subject, USAGE_LINE, answers, each_passes, folder_of,
-    passes,
+    Case, EMPTY, REPLAY, RUN, Subject, USAGE_LINE, answers, each_passes, folder_of, passes,
 };
-use crate::{region, store};
 use command_answer::{DIFFERS, DONE, FOLDER_REFUSED, KERNEL_REFUSED, USAGE};
+use made_folders::{END, ROOT, Rec, region, store};
 use memory_environment::MemFolder;
 use std::alloc::Global;
 use std::marker::Send;

@@ -1,7 +1,7 @@
 //! Runs of small kernels: what `run` prints and leaves, and how its logs are cut.
 
 use crate::tests::fixtures::{
-    Case, EMPTY, RUN, SHOW, USAGE_LINE, all_pass, folder_of, passes, printed,
+    Case, EMPTY, RUN, SHOW, Subject, USAGE_LINE, each_passes, folder_of, passes, printed,
 };
 use command_answer::{
     DONE, INDEX_THERE, KERNEL_REFUSED, KERNEL_STOPPED, RACES, USAGE, WRITE_FAULT,
@@ -60,11 +60,6 @@ const COUNTING: Case<'static> = Case {
     left: &[(INDEX, Some(152))],
     ..EMPTY
 };
-
-#[test]
-fn two_lanes_count(rt: HostRuntime) {
-    all_pass(&rt, rt.alloc(), &[COUNTING]);
-}
 
 const SINGLE: &[usize] = &[8, 24, 24, 24, 24, 24, 24, 24, 24, 24, 24];
 
@@ -144,11 +139,6 @@ const SHARING: &[Case<'static>] = &[
 
 const ONE_RACE: &str = "race 3 3\nraces 1\n";
 
-#[test]
-fn a_run_races_where_lanes_share_an_element(rt: HostRuntime) {
-    all_pass(&rt, rt.alloc(), SHARING);
-}
-
 const IDLE: &[Case<'static>] = &[
     Case {
         held: &[("k", NOTHING)],
@@ -176,11 +166,6 @@ const IDLE: &[Case<'static>] = &[
     },
 ];
 
-#[test]
-fn an_empty_loop_has_a_barrier_alone(rt: HostRuntime) {
-    all_pass(&rt, rt.alloc(), IDLE);
-}
-
 const SIGNED: Case<'static> = Case {
     held: &[(
         "k",
@@ -193,11 +178,6 @@ const SIGNED: Case<'static> = Case {
     )],
     ..EMPTY
 };
-
-#[test]
-fn sums_are_signed(rt: HostRuntime) {
-    all_pass(&rt, rt.alloc(), &[SIGNED]);
-}
 
 const INDEXED: &[Case<'static>] = &[
     Case {
@@ -219,11 +199,6 @@ const INDEXED: &[Case<'static>] = &[
     },
 ];
 
-#[test]
-fn an_index_is_kept(rt: HostRuntime) {
-    all_pass(&rt, rt.alloc(), INDEXED);
-}
-
 // Lane 0 has four Writes and waits at its Barrier, or it stops after a Read.
 const STOPPED: &[Case<'static>] = &[
     Case {
@@ -242,11 +217,6 @@ const STOPPED: &[Case<'static>] = &[
     },
 ];
 
-#[test]
-fn a_stop_names_the_least_lane(rt: HostRuntime) {
-    all_pass(&rt, rt.alloc(), STOPPED);
-}
-
 const OTHER_SIZES: Case<'static> = Case {
     held: &[("k", COUNT)],
     asked: &[
@@ -257,11 +227,6 @@ const OTHER_SIZES: Case<'static> = Case {
     left: &[("d/t.swl", None)],
     ..EMPTY
 };
-
-#[test]
-fn other_sizes_are_usage(rt: HostRuntime) {
-    all_pass(&rt, rt.alloc(), &[OTHER_SIZES]);
-}
 
 const NO_KERNELS: &[Case<'static>] = &[
     Case {
@@ -310,11 +275,6 @@ const NO_KERNELS: &[Case<'static>] = &[
     },
 ];
 
-#[test]
-fn other_kernels_are_refused(rt: HostRuntime) {
-    all_pass(&rt, rt.alloc(), NO_KERNELS);
-}
-
 // A write that fails has put the first half of its text.
 const NO_TEXT: &[Case<'static>] = &[
     Case {
@@ -331,11 +291,6 @@ const NO_TEXT: &[Case<'static>] = &[
         ..EMPTY
     },
 ];
-
-#[test]
-fn the_text_of_a_refused_kernel_may_fail(rt: HostRuntime) {
-    all_pass(&rt, rt.alloc(), NO_TEXT);
-}
 
 // A sum that is nearly as deep as its text is long.
 fn long_sum(rt: &impl Abort, alloc: Global) -> String {
@@ -365,4 +320,29 @@ fn a_long_sum_is_run(rt: HostRuntime) -> Result<(), Fail> {
     let thread = Builder::new().stack_size(STACK).spawn(&rt, work)?;
     assert!(rt; thread.join(&rt));
     Ok(())
+}
+
+const RUNNING: &[Subject<'static>] = &[
+    ("two lanes count", &[COUNTING]),
+    ("a run races where lanes share an element", SHARING),
+    ("an empty loop has a barrier alone", IDLE),
+    ("sums are signed", &[SIGNED]),
+    ("a stop names the least lane", STOPPED),
+];
+
+#[test]
+fn small_kernels_are_run(rt: HostRuntime) {
+    each_passes(&rt, rt.alloc(), RUNNING);
+}
+
+const REFUSING: &[Subject<'static>] = &[
+    ("an index is kept", INDEXED),
+    ("other sizes are a usage fault", &[OTHER_SIZES]),
+    ("other kernels are refused", NO_KERNELS),
+    ("the text of a refused kernel may fail", NO_TEXT),
+];
+
+#[test]
+fn other_kernels_are_refused(rt: HostRuntime) {
+    each_passes(&rt, rt.alloc(), REFUSING);
 }

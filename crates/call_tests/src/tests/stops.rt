@@ -1,8 +1,7 @@
 //! Kernels that stop: which stop is told, and what is left of the run.
 
-use crate::tests::fixtures::{Case, EMPTY, RUN, Subject, each_passes, passes_past};
+use crate::tests::fixtures::{Case, EMPTY, Past, RUN, Subject, all_pass_past, each_passes};
 use command_answer::{DONE, FOLDER_REFUSED, KERNEL_STOPPED, WRITE_FAULT};
-use sw_base::Path;
 
 // Lane 1 leaves the array, or divides by 0.
 const LEAVING: &str =
@@ -126,10 +125,24 @@ const GUARDED_STOPS: &[Case<'static>] = &[
 
 const ONE_BY_ONE: &[&str] = &["run", "k", "d", "24"];
 
-// The lane whose second call on its log fails, and its case. Where the run stops lane 0 has its End.
-const LEAST_LANES: &[(u16, Case<'static>)] = &[
+// The root's third call on its log fails, and then a lane's second. Where the run stops lane 0 has its End.
+const PAST_A_LOG: &[Past<'static>] = &[
     (
+        &[],
         3,
+        Case {
+            held: &[(
+                "k",
+                "array a i64 1000 main { loop i in 0 .. 1000 { a[i] = 1 } }",
+            )],
+            asked: &[(&["run", "k", "d", "240"], WRITE_FAULT, "")],
+            left: &[("d/t.swl", None), (INDEX, None)],
+            ..EMPTY
+        },
+    ),
+    (
+        &[(0, 3, 4)],
+        2,
         Case {
             held: &[("k", LEAVES_FIRST)],
             asked: &[(
@@ -142,7 +155,8 @@ const LEAST_LANES: &[(u16, Case<'static>)] = &[
         },
     ),
     (
-        3,
+        &[(0, 3, 4)],
+        2,
         Case {
             held: &[("k", DIVIDES_FIRST)],
             asked: &[(
@@ -155,7 +169,8 @@ const LEAST_LANES: &[(u16, Case<'static>)] = &[
         },
     ),
     (
-        1,
+        &[(0, 1, 4)],
+        2,
         Case {
             held: &[("k", FAILS_FIRST)],
             asked: &[(ONE_BY_ONE, WRITE_FAULT, "")],
@@ -166,10 +181,8 @@ const LEAST_LANES: &[(u16, Case<'static>)] = &[
 ];
 
 #[test]
-fn the_least_lane_of_three_is_told(rt: HostRuntime) {
-    for (lane, case) in LEAST_LANES {
-        passes_past(&rt, rt.alloc(), &Path::root().child(0, *lane, 4), 2, case);
-    }
+fn a_log_that_fails_is_told_where_its_lane_is_the_least(rt: HostRuntime) {
+    all_pass_past(&rt, rt.alloc(), PAST_A_LOG);
 }
 
 const TOO_MANY: Case<'static> = Case {
@@ -265,21 +278,6 @@ const WHOLE_LOGS: &[Case<'static>] = &[
         ..EMPTY
     },
 ];
-
-const FAILING: Case<'static> = Case {
-    held: &[(
-        "k",
-        "array a i64 1000 main { loop i in 0 .. 1000 { a[i] = 1 } }",
-    )],
-    asked: &[(&["run", "k", "d", "240"], WRITE_FAULT, "")],
-    left: &[("d/t.swl", None), (INDEX, None)],
-    ..EMPTY
-};
-
-#[test]
-fn a_log_that_fails_leaves_nothing(rt: HostRuntime) {
-    passes_past(&rt, rt.alloc(), &Path::root(), 3, &FAILING);
-}
 
 const SUBJECTS: &[Subject<'static>] = &[
     ("a stop leaves the logs of all tasks", STOPS),

@@ -1,8 +1,8 @@
 //! Refusals of folders that are made or changed byte by byte.
 
-use crate::tests::fixtures::{BARRIER, Case, EMPTY, END, ROOT, Rec, answers, folder_of};
-use crate::{region, store};
+use crate::tests::fixtures::{Case, EMPTY, answers, folder_of};
 use command_answer::FOLDER_REFUSED;
+use made_folders::{BARRIER, END, ROOT, Rec, region, store};
 use memory_environment::MemFolder;
 use std::alloc::Global;
 use std::process::Abort;

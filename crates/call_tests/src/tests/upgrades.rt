@@ -1,18 +1,8 @@
 //! Folders of the first format: what `upgrade` prints of them, and what is then in the new folder.
 
-use crate::store;
-use crate::tests::fixtures::{
-    BARRIER, Case, EMPTY, END, ROOT, Subject, each_passes, folder_of, printed,
-};
+use crate::tests::fixtures::{Case, EMPTY, Subject, each_passes};
 use command_answer::{DONE, FOLDER_REFUSED, INDEX_THERE, RACES};
-use host_environment::HostFolder;
-use std::alloc::Global;
-use std::marker::Send;
-use std::process::Abort;
-use std::sync::Wait;
-use std::thread::Threads;
-use std::{env, fs, process};
-use sw_base::Folder;
+use made_folders::{BARRIER, END, ROOT, store};
 
 // A lane that adds 1 to each of four elements, from this one on, of every second.
 macro_rules! adding {
@@ -32,8 +22,8 @@ macro_rules! adding {
     };
 }
 
-// The run of a kernel that adds 1 to each of eight elements, as it was written by the first format.
-const COUNTED: Case<'static> = Case {
+/// The run of a kernel that adds 1 to each of eight elements, as it was written by the first format.
+pub const COUNTED: Case<'static> = Case {
     old_tasks: &[
         (&[], &[(6, 0, 3, 0, 2), (8, 0, 8, 0, 0)]),
         (&[(0, 0, 2)], adding!(4096)),
@@ -70,7 +60,8 @@ log t-0.1.swl records 10
 10 end line 7
 ";
 
-const OLD: &str = "bad index row 0: Old\n";
+/// What is told of a folder of the first format.
+pub const OLD: &str = "bad index row 0: Old\n";
 
 const BROUGHT: &[Case<'static>] = &[
     Case {
@@ -188,84 +179,6 @@ const REFUSED: &[Case<'static>] = &[
         ..EMPTY
     },
 ];
-
-type Host = HostFolder<HostRuntime>;
-
-// Makes real files, below this folder, of the logs and the index of the run that was counted.
-fn put_files(rt: &impl Abort, alloc: Global, folder: &mut Host, top: &str) {
-    let files = folder_of(rt, alloc, &COUNTED);
-    for name in ["d/index.swi", "d/t.swl", "d/t-0.0.swl", "d/t-0.1.swl"] {
-        let bytes = files.file(name).expect(rt, "a file");
-        let path = format!(in alloc; "{top}/{name}").expect(rt, "memory");
-        folder.put(alloc, &path, bytes).expect(rt, name);
-    }
-}
-
-// What is asked of the folders below one, the last of which isn't there yet.
-const ASKED: &[(&str, &str, &str, u8, &str)] = &[
-    ("check", "d", "2", FOLDER_REFUSED, OLD),
-    ("upgrade", "d", "new/e", DONE, "upgraded 3\n"),
-    ("check", "new/e", "2", DONE, "races 0\n"),
-    ("upgrade", "d", "new/e", INDEX_THERE, "index exists\n"),
-    ("upgrade", "d", "new/../d", INDEX_THERE, "index exists\n"),
-    (
-        "upgrade",
-        "new/e",
-        "f",
-        FOLDER_REFUSED,
-        "bad index row 0: Header\n",
-    ),
-];
-
-// Aborts where these words come to another status or text.
-fn is_answered<'a, R: Abort + Threads + Wait + Sync + Copy + Send + 'static>(
-    rt: &R,
-    alloc: Global,
-    folder: &mut Host,
-    words: (&'a str, &'a str, &'a str),
-    status: u8,
-    text: &str,
-) {
-    let (command, dir, last) = words;
-    let (answered, out) = printed(rt, alloc, folder, &[command, dir, last], &[]);
-    assert!(rt;
-        answered == status && out.written() == text.as_bytes(),
-        "{command} {dir}"
-    );
-}
-
-// Aborts where real files below this folder are answered otherwise.
-fn real_files_answer<R: Abort + Threads + Wait + Sync + Copy + Send + 'static>(
-    rt: &R,
-    alloc: Global,
-    folder: &mut Host,
-    top: &str,
-) {
-    for (command, dir, last, status, text) in ASKED {
-        let dir = format!(in alloc; "{top}/{dir}").expect(rt, "memory");
-        let new = format!(in alloc; "{top}/{last}").expect(rt, "memory");
-        if *command == "check" {
-            let words = (*command, dir.as_str(), *last);
-            is_answered(rt, alloc, folder, words, *status, *text);
-        } else {
-            let words = (*command, dir.as_str(), new.as_str());
-            is_answered(rt, alloc, folder, words, *status, *text);
-        }
-    }
-}
-
-#[test]
-fn real_files_are_brought_over(rt: HostRuntime) {
-    let alloc = rt.alloc();
-    let base = env::temp_dir(&rt).expect(&rt, "a folder");
-    let base = base.to_str().expect(&rt, "a path");
-    let id = process::id(rt.process());
-    let top = format!(in alloc; "{base}/sword-upgrades-{id}").expect(&rt, "memory");
-    let mut folder = HostFolder::new(rt);
-    put_files(&rt, alloc, &mut folder, &top);
-    real_files_answer(&rt, alloc, &mut folder, &top);
-    fs::remove_dir_all(&rt, &top).expect(&rt, "no folder");
-}
 
 const SUBJECTS: &[Subject<'static>] = &[
     ("a folder of the first format is brought over", BROUGHT),

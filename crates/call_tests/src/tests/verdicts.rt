@@ -1,12 +1,10 @@
 //! Verdicts: what `certify` prints of kernels.
 
-use crate::tests::fixtures::{
-    CERTIFY, Calls, Case, EMPTY, USAGE_LINE, Verdict, all_judged, all_pass, each_call_may_fail,
-};
+use crate::tests::fixtures::{CERTIFY, Case, EMPTY, USAGE_LINE, Verdict, all_judged, all_pass};
 use command_answer::{DONE, KERNEL_REFUSED, UNCERTAIN, USAGE};
 
-// A stencil whose lanes meet at two barriers in each step.
-const HEAT: &str = "# heat
+/// A stencil whose lanes meet at two barriers in each step.
+pub const HEAT: &str = "# heat
 array u i64 64
 array v i64 64
 main {
@@ -24,8 +22,8 @@ u[i] = v[i]
 }
 ";
 
-// Lane 1 reads the element that lane 0 writes last.
-const SHIFT: &str =
+/// Lane 1 reads the element that lane 0 writes last.
+pub const SHIFT: &str =
     "array a i64 9\nmain { parallel 2 {\nfor i in 0 .. 8 static 4 { a[i+1] = a[i] }\n} }\n";
 
 const VERDICTS: &[Verdict<'static>] = &[
@@ -92,11 +90,6 @@ const VERDICTS: &[Verdict<'static>] = &[
     ),
 ];
 
-#[test]
-fn kernels_have_their_verdicts(rt: HostRuntime) {
-    all_judged(&rt, rt.alloc(), VERDICTS);
-}
-
 // Kernels that come to a limit.
 const LARGE: &[Verdict<'static>] = &[
     (
@@ -149,7 +142,7 @@ fn a_run_of_too_many_records_is_long(rt: HostRuntime) {
 }
 
 // A folder is neither read nor written.
-const ALONE: Case<'static> = Case {
+const ALONE: &[Case<'static>] = &[Case {
     held: &[("k", SHIFT)],
     asked: &[
         (CERTIFY, UNCERTAIN, "race 3 3\nraces 1\nuncertain: races\n"),
@@ -160,45 +153,10 @@ const ALONE: Case<'static> = Case {
     ],
     left: &[("d/index.swi", None)],
     ..EMPTY
-};
+}];
 
 #[test]
-fn a_kernel_is_named_alone(rt: HostRuntime) {
-    all_pass(&rt, rt.alloc(), &[ALONE]);
-}
-
-// The kernel's size and its bytes are asked for, and each line of the report is printed alone.
-const RACY: Calls<'static> = Calls {
-    case: Case {
-        held: &[("k", SHIFT)],
-        asked: &[(CERTIFY, UNCERTAIN, "race 3 3\nraces 1\nuncertain: races\n")],
-        ..EMPTY
-    },
-    reads: 2,
-    writes: 0,
-    roots: 0,
-    puts: &[],
-    prints: 3,
-    logs: &[],
-    made: &[],
-};
-
-const CERTAIN: Calls<'static> = Calls {
-    case: Case {
-        held: &[("k", HEAT)],
-        asked: &[(
-            CERTIFY,
-            DONE,
-            "certain\ntasks 5\nrecords 1147\nsum u 1592\nsum v 592\n",
-        )],
-        ..EMPTY
-    },
-    prints: 1,
-    ..RACY
-};
-
-#[test]
-fn each_call_of_a_verdict_may_fail(rt: HostRuntime) {
-    each_call_may_fail(&rt, rt.alloc(), &RACY);
-    each_call_may_fail(&rt, rt.alloc(), &CERTAIN);
+fn kernels_have_their_verdicts(rt: HostRuntime) {
+    all_judged(&rt, rt.alloc(), VERDICTS);
+    all_pass(&rt, rt.alloc(), ALONE);
 }

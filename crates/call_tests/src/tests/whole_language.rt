@@ -2,6 +2,7 @@
 //! that it wrote.
 
 use super::runs::left_by;
+use super::verdicts::HEAT;
 use crate::tests::fixtures::{
     Case, EMPTY, RUN, SHOW, Subject, Whole, all_pass, all_run, each_passes, printed,
 };
@@ -98,24 +99,6 @@ loop i in 0 .. 1000 { critical c { s[0] = s[0] + 1 } }
 } }
 ";
 
-const HEAT: &str = "# heat
-array u i64 64
-array v i64 64
-main {
-u[0] = 1000
-parallel 4 {
-loop t in 0 .. 3 {
-for i in 1 .. 63 {
-v[i] = (u[i-1] + 2 * u[i] + u[i+1]) / 4
-}
-for i in 1 .. 63 {
-u[i] = v[i]
-}
-}
-}
-}
-";
-
 const HEAT_ON: &str = "# heat
 array u i64 64
 array v i64 64
@@ -173,11 +156,6 @@ const WITHOUT_A_RACE: &[Whole<'static>] = &[
     ),
 ];
 
-#[test]
-fn sums_are_printed_of_runs_without_a_race(rt: HostRuntime) {
-    all_run(&rt, rt.alloc(), "2", WITHOUT_A_RACE);
-}
-
 // What some of them print isn't the same each time.
 const CHECKED: &[Whole<'static>] = &[
     (UNLOCKED, "...", RACES, "race 4 4\nraces 1\n"),
@@ -188,11 +166,6 @@ const CHECKED: &[Whole<'static>] = &[
     (NESTED_APART, "...", DONE, NO_RACE),
     (HEAT_ON, "...", RACES, "race 9 12\nraces 1\n"),
 ];
-
-#[test]
-fn folders_of_runs_check_as_their_races(rt: HostRuntime) {
-    all_run(&rt, rt.alloc(), "2", CHECKED);
-}
 
 const RESIZED: Case<'static> = Case {
     held: &[("k", DRAWN), ("resized", DRAWN_OTHERWISE)],
@@ -249,19 +222,19 @@ fn a_run_without_draws_has_the_same_logs_each_time(rt: HostRuntime) {
     }
 }
 
-const REDRAWN: Case<'static> = Case {
+const REDRAWN: &[Case<'static>] = &[Case {
     held: &[("k", DRAWN_TWICE)],
     asked: &[
         (RUN, DONE, "tasks 3\nrecords 30\nsum a 8\n"),
         (&["check", "d", "1"], DONE, NO_RACE),
     ],
     ..EMPTY
-};
+}];
 
 #[test]
 fn each_run_with_draws_is_a_run_without_a_race(rt: HostRuntime) {
     for _ in 0..200 {
-        all_pass(&rt, rt.alloc(), &[REDRAWN]);
+        all_pass(&rt, rt.alloc(), REDRAWN);
     }
 }
 
@@ -321,6 +294,8 @@ const SUBJECTS: &[Subject<'static>] = &[
 ];
 
 #[test]
-fn chunks_of_another_size_and_a_root_alone(rt: HostRuntime) {
+fn kernels_of_the_whole_language_run(rt: HostRuntime) {
+    all_run(&rt, rt.alloc(), "2", WITHOUT_A_RACE);
+    all_run(&rt, rt.alloc(), "2", CHECKED);
     each_passes(&rt, rt.alloc(), SUBJECTS);
 }

@@ -1,9 +1,8 @@
 //! The records behind a pair of lines, and whether two records race.
 
-use crate::store;
-use crate::tests::fixtures::{BARRIER, Case, EMPTY, END, ROOT, all_pass, answers};
+use crate::tests::fixtures::{Case, EMPTY, all_pass};
 use command_answer::{DONE, FOLDER_REFUSED, RACES};
-use memory_environment::MemFolder;
+use made_folders::{BARRIER, END, ROOT, store};
 
 // A read of eight bytes by line 3.
 macro_rules! read {
@@ -119,20 +118,21 @@ const WITNESSES: &[Case<'static>] = &[
         ],
         ..EMPTY
     },
+    // No folder.
+    Case {
+        asked: &[
+            (&["explain", "d", "1", "2"], FOLDER_REFUSED, "no index\n"),
+            (
+                &["confirm", "d", "1", "1", "2", "1"],
+                FOLDER_REFUSED,
+                "no index\n",
+            ),
+        ],
+        ..EMPTY
+    },
 ];
 
 #[test]
 fn records_are_named_and_confirmed(rt: HostRuntime) {
     all_pass(&rt, rt.alloc(), WITNESSES);
-}
-
-#[test]
-fn a_bad_folder_has_no_witness(rt: HostRuntime) {
-    let alloc = rt.alloc();
-    let mut folder = MemFolder::new(alloc).expect(&rt, "memory");
-    let explain: &[&str] = &["explain", "d", "1", "2"];
-    let confirm: &[&str] = &["confirm", "d", "1", "1", "2", "1"];
-    let text = "no index\n";
-    answers(&rt, alloc, &mut folder, explain, FOLDER_REFUSED, text);
-    answers(&rt, alloc, &mut folder, confirm, FOLDER_REFUSED, text);
 }

@@ -2,7 +2,7 @@
 ghost use Rattle.std.specs.Prelude.{None, string_bytes};
 ghost use Rattle.memory_environment.specs.MemFolder.{read_faults_of, write_faults_of};
 
-use crate::tests::fixtures::asked;
+use super::asking::asked;
 use command_answer::DONE;
 use memory_environment::{MemFile, MemFolder, MemOut};
 use std::alloc::Global;

@@ -1,10 +1,11 @@
 //! The checker against a search of the graph of edges: small and slow on purpose, and written from the definition alone.
 ghost use Rattle.std.specs.Prelude.{◌<◌};
 
+use super::asking::folder_of;
 use super::workers::each_answers;
-use crate::tests::fixtures::{Rec, Step, hold_tasks};
 use command_answer::RACES;
 use explain::{RacePair, confirm, explain};
+use made_folders::{Rec, Step};
 use memory_environment::MemFolder;
 use std::alloc::Global;
 use std::process::Abort;
@@ -187,14 +188,12 @@ fn run(rt: &impl Abort, alloc: Global, state: u64, lines: u32, regions: &Regions
 }
 
 /// The folder of the run.
-fn folder_of(rt: &impl Abort, alloc: Global, tasks: &[Task]) -> MemFolder {
+fn folder_of_run(rt: &impl Abort, alloc: Global, tasks: &[Task]) -> MemFolder {
     let mut all: Vec<(&[Step], &[Rec])> = Vec::new(alloc);
     for task in tasks {
         all.push((&task.steps, &task.records)).expect(rt, "memory");
     }
-    let mut folder = MemFolder::new(alloc).expect(rt, "memory");
-    hold_tasks(rt, alloc, &mut folder, &all);
-    folder
+    folder_of(rt, alloc, &all)
 }
 
 /// A record of the run, by its log and its place there.
@@ -465,7 +464,7 @@ fn races_are_those_of_a_search_of_the_graph(rt: HostRuntime) {
         let tasks = run(&rt, alloc, state, u32::MAX, &[3, 3, 1, 1]);
         assert!(rt; segments(&tasks) >= 300 && has_deep_barrier(&tasks));
         let text = due_report(&rt, alloc, &tasks);
-        let mut folder = folder_of(&rt, alloc, &tasks);
+        let mut folder = folder_of_run(&rt, alloc, &tasks);
         each_answers(&rt, alloc, &mut folder, RACES, &text);
     }
 }
@@ -540,7 +539,7 @@ fn witnesses_are_those_of_a_search_of_the_graph(rt: HostRuntime) {
         let tasks = run(&rt, alloc, state, 3, &[2, 1, 0, 0]);
         let nodes = nodes_of(&rt, alloc, &tasks);
         let found = races(&rt, alloc, &nodes);
-        let mut folder = folder_of(&rt, alloc, &tasks);
+        let mut folder = folder_of_run(&rt, alloc, &tasks);
         assert!(rt; others(alloc, &mut folder, &nodes, &found) == 0);
         assert!(rt; other_least(alloc, &mut folder, &found) == 0);
     }

@@ -1,7 +1,7 @@
 //! That no thread of a run is left when it has ended.
 
+use super::asking::printed;
 use super::told::told;
-use crate::tests::fixtures::printed;
 use command_answer::{DONE, KERNEL_STOPPED};
 use memory_environment::MemFolder;
 use std::alloc::Global;
@@ -49,7 +49,7 @@ fn no_thread_of_a_run_is_left(rt: HostRuntime) {
     for (name, kernel, due) in RUNS {
         let mut folder = MemFolder::new(alloc).expect(&rt, "memory");
         folder.hold("k", kernel.as_bytes()).expect(&rt, "memory");
-        let (status, _) = printed(&rt, alloc, &mut folder, &[*name, "k", "d", "16384"], &[]);
+        let (status, _) = printed(&rt, alloc, &mut folder, &[*name, "k", "d", "16384"]);
         assert!(rt; status == *due, "{name} {kernel}");
         assert!(rt; are_left(rt, alloc, before), "{name} {kernel}");
     }

@@ -1,7 +1,7 @@
 //! On which thread a lane runs its phases.
 
+use super::asking::asked;
 use super::told::told;
-use crate::tests::fixtures::asked;
 use command_answer::DONE;
 use memory_environment::{MemFolder, MemOut};
 use std::alloc::Global;

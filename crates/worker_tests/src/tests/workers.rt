@@ -1,11 +1,10 @@
 //! `check` with each number of workers: the same report. Workers run at once, and so do the lanes of a run.
 ghost use Rattle.std.specs.Prelude.{◌<◌, ◌^◌};
 
-use crate::tests::fixtures::{
-    BARRIER, Case, EMPTY, END, ROOT, RUN, Rec, Step, asked, folder_of, hold_tasks, printed,
-};
-use crate::{region, store};
+use super::asking::{asked, folder_of, printed};
 use command_answer::{DONE, RACES};
+use generated_run::generate;
+use made_folders::{BARRIER, END, ROOT, Rec, Step, Task, region, store};
 use meeting_gate::MeetingGate;
 use memory_environment::{MemFolder, MemOut};
 use std::alloc::Global;
@@ -23,7 +22,7 @@ fn check_answers<R: Abort + Threads + Wait + Sync + Copy + Send + 'static>(
     status: u8,
     text: &str,
 ) {
-    let (answered, out) = printed(rt, alloc, folder, &["check", "d", workers], &[]);
+    let (answered, out) = printed(rt, alloc, folder, &["check", "d", workers]);
     assert!(rt;
         answered == status && out.written() == text.as_bytes(),
         "{workers} workers, status {answered}"
@@ -60,9 +59,7 @@ fn with_lanes(rt: &impl Abort, alloc: Global, lanes: &[Lane]) -> MemFolder {
             .push((&lane.steps, &lane.records))
             .expect(rt, "memory");
     }
-    let mut folder = MemFolder::new(alloc).expect(rt, "memory");
-    hold_tasks(rt, alloc, &mut folder, &tasks);
-    folder
+    folder_of(rt, alloc, &tasks)
 }
 
 // Whether a lane has no access.
@@ -227,6 +224,14 @@ fn many_barrier_intervals_are_compared_each_with_its_own(rt: HostRuntime) {
     }
 }
 
+#[test]
+fn a_large_generated_folder_is_checked(rt: HostRuntime) {
+    let alloc = rt.alloc();
+    let mut folder = MemFolder::new(alloc).expect(&rt, "memory");
+    generate(alloc, &mut folder, "d", 100_000).expect(&rt, "memory");
+    check_answers(&rt, alloc, &mut folder, "8", RACES, "race 30 40\nraces 1\n");
+}
+
 // A lane that accesses one element in sixteen lines, by records of this kind.
 fn sixteen(rt: &impl Abort, alloc: Global, kind: u8) -> Vec<Rec> {
     let mut records = Vec::new(alloc);
@@ -281,19 +286,16 @@ fn at_once<R: Abort + Threads + Wait + Sync + Copy + Send + 'static>(
 // So many run at once, as the words are written.
 const COUNTS: &[(&str, usize)] = &[("2", 2), ("4", 4), ("64", 64)];
 
-const TWO_LANES: Case<'static> = Case {
-    tasks: &[
-        (&[], ROOT),
-        (&[(0, 0, 2)], &[store!(3, 4128), BARRIER, END]),
-        (&[(0, 1, 2)], &[(1, 8, 3, 4128, 0), BARRIER, END]),
-    ],
-    ..EMPTY
-};
+const TWO_LANES: &[Task<'static>] = &[
+    (&[], ROOT),
+    (&[(0, 0, 2)], &[store!(3, 4128), BARRIER, END]),
+    (&[(0, 1, 2)], &[(1, 8, 3, 4128, 0), BARRIER, END]),
+];
 
 #[test]
 fn each_number_of_workers_finds_a_race(rt: HostRuntime) {
     let alloc = rt.alloc();
-    let mut folder = folder_of(&rt, alloc, &TWO_LANES);
+    let mut folder = folder_of(&rt, alloc, TWO_LANES);
     for workers in 1..65u8 {
         let word = format!(in alloc; "{workers}").expect(&rt, "memory");
         check_answers(&rt, alloc, &mut folder, &word, RACES, "race 3 3\nraces 1\n");
@@ -305,7 +307,7 @@ fn the_workers_of_a_check_run_at_once(rt: HostRuntime) {
     let alloc = rt.alloc();
     let text = "race 3 3\nraces 1\n";
     for (workers, count) in COUNTS {
-        let mut folder = folder_of(&rt, alloc, &TWO_LANES);
+        let mut folder = folder_of(&rt, alloc, TWO_LANES);
         let check = ["check", "d", *workers];
         at_once(&rt, alloc, &mut folder, &check, *count, RACES, text);
     }
@@ -344,6 +346,7 @@ fn the_lanes_of_a_run_run_at_once(rt: HostRuntime) {
             2 * count + 2
         )
         .expect(&rt, "memory");
-        at_once(&rt, alloc, &mut folder, RUN, *count, DONE, &text);
+        let run = ["run", "k", "d", "4096"];
+        at_once(&rt, alloc, &mut folder, &run, *count, DONE, &text);
     }
 }

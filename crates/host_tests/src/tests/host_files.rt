@@ -1,27 +1,15 @@
 //! What the host's folder does to real files.
 
-use crate::tests::fixtures::{asked, printed};
-use command_answer::{READ_FAULT, WRITE_FAULT};
 use host_environment::{HostFile, HostFolder, HostLog, write_whole};
-use memory_environment::MemOut;
+use made_folders::fresh;
 use std::alloc::Global;
+use std::fs;
 use std::io::{self, Error, ErrorKind, Write};
 use std::process::Abort;
 use std::rt::Files;
-use std::test::Fail;
-use std::{env, fs, process};
-use sw_base::{File, Folder, Gate, Log, Trouble, read_file};
+use sw_base::{File, Folder, Log, Trouble, read_file};
 
 type Host = HostFolder<HostRuntime>;
-
-// A folder of its own for a test, which isn't there yet.
-fn fresh(rt: &HostRuntime, name: &str) -> Result<String, Fail> {
-    let alloc = rt.alloc();
-    let base = env::temp_dir(rt)?;
-    let id = process::id(rt.process());
-    let base = base.to_str().ok_or("a path")?;
-    Ok(format!(in alloc; "{base}/sword-{name}-{id}")?)
-}
 
 // Whether the file has these bytes.
 fn has_bytes(folder: &mut Host, alloc: Global, name: &str, bytes: &[u8]) -> bool {
@@ -45,9 +33,9 @@ fn write_logs(rt: &impl Abort, folder: &mut Host, alloc: Global, dir: &str) -> b
 }
 
 #[test]
-fn logs_are_written_piece_by_piece(rt: HostRuntime) -> Result<(), Fail> {
+fn logs_are_written_piece_by_piece(rt: HostRuntime) {
     let alloc = rt.alloc();
-    let top = fresh(&rt, "pieces")?;
+    let top = fresh(&rt, "pieces").expect(&rt, "a name");
     let dir = format!(in alloc; "{top}/made/below").expect(&rt, "memory");
     let of_root = format!(in alloc; "{dir}/t.swl").expect(&rt, "memory");
     let of_lane = format!(in alloc; "{dir}/t-0.1.swl").expect(&rt, "memory");
@@ -62,7 +50,6 @@ fn logs_are_written_piece_by_piece(rt: HostRuntime) -> Result<(), Fail> {
     }
     assert!(rt; folder.faults() == (0, 0));
     fs::remove_dir_all(&rt, &top).expect(&rt, "no folder");
-    Ok(())
 }
 
 // The file's bytes from a place on, as one call reads them.
@@ -105,45 +92,43 @@ fn has_parts(rt: &impl Abort, folder: &mut Host, alloc: Global, name: &str, byte
 }
 
 #[test]
-fn a_file_is_read_from_each_place(rt: HostRuntime) -> Result<(), Fail> {
+fn a_file_is_read_from_each_place(rt: HostRuntime) {
     let alloc = rt.alloc();
-    let dir = fresh(&rt, "places")?;
+    let dir = fresh(&rt, "places").expect(&rt, "a name");
     let name = format!(in alloc; "{dir}/whole").expect(&rt, "memory");
     let mut folder = HostFolder::new(rt);
     let mut bytes = [0u8; 10_000];
     for (at, byte) in bytes.iter_mut().enumerate() {
         *byte = (at % 251) as u8;
     }
-    assert!(rt; folder.put(alloc, &name, &bytes) == Ok(()));
+    folder.put(alloc, &name, &bytes).expect(&rt, "a file");
     assert!(rt; folder.size(alloc, &name) == Ok(Some(10_000)));
     assert!(rt;
         has_bytes(&mut folder, alloc, &name, &bytes)
             && has_parts(&rt, &mut folder, alloc, &name, &bytes)
     );
     // A shorter file takes the place of a longer one.
-    assert!(rt; folder.put(alloc, &name, b"short") == Ok(()));
+    folder.put(alloc, &name, b"short").expect(&rt, "a file");
     assert!(rt; folder.size(alloc, &name) == Ok(Some(5)));
     assert!(rt; folder.faults() == (0, 0));
     fs::remove_dir_all(&rt, &dir).expect(&rt, "no folder");
-    Ok(())
 }
 
 #[test]
-fn a_put_makes_the_folder_of_its_name(rt: HostRuntime) -> Result<(), Fail> {
+fn a_put_makes_the_folder_of_its_name(rt: HostRuntime) {
     let alloc = rt.alloc();
-    let top = fresh(&rt, "folders")?;
+    let top = fresh(&rt, "folders").expect(&rt, "a name");
     let name = format!(in alloc; "{top}/made/below/t.swl").expect(&rt, "memory");
     let beside = format!(in alloc; "{top}/made/below/index.swi").expect(&rt, "memory");
     let mut folder = HostFolder::new(rt);
-    assert!(rt; folder.put(alloc, &name, b"log") == Ok(()));
-    assert!(rt; folder.put(alloc, &beside, b"index") == Ok(()));
+    folder.put(alloc, &name, b"log").expect(&rt, "a file");
+    folder.put(alloc, &beside, b"index").expect(&rt, "a file");
     assert!(rt;
         has_bytes(&mut folder, alloc, &name, b"log")
             && has_bytes(&mut folder, alloc, &beside, b"index")
     );
     assert!(rt; folder.faults() == (0, 0));
     fs::remove_dir_all(&rt, &top).expect(&rt, "no folder");
-    Ok(())
 }
 
 // Whether a file isn't there, and so has no byte.
@@ -153,9 +138,9 @@ fn is_missing(folder: &mut Host, alloc: Global, name: &str) -> bool {
 }
 
 #[test]
-fn what_is_not_there_has_no_byte(rt: HostRuntime) -> Result<(), Fail> {
+fn what_is_not_there_has_no_byte(rt: HostRuntime) {
     let alloc = rt.alloc();
-    let dir = fresh(&rt, "missing")?;
+    let dir = fresh(&rt, "missing").expect(&rt, "a name");
     let name = format!(in alloc; "{dir}/none").expect(&rt, "memory");
     let below = format!(in alloc; "{dir}/t.swl/none").expect(&rt, "memory");
     let mut folder = HostFolder::new(rt);
@@ -163,40 +148,48 @@ fn what_is_not_there_has_no_byte(rt: HostRuntime) -> Result<(), Fail> {
     folder.discard(root);
     assert!(rt; is_missing(&mut folder, alloc, &name) && is_missing(&mut folder, alloc, &below));
     assert!(rt; folder.faults() == (0, 0));
-    assert!(rt; folder.put(alloc, &below, b"bytes") == Err(Trouble::Failed));
+    assert!(rt; matches!(folder.put(alloc, &below, b"bytes"), Err(Trouble::Failed)));
     assert!(rt; folder.root(alloc, &below).is_err());
     assert!(rt; folder.faults() == (0, 2));
     fs::remove_dir_all(&rt, &dir).expect(&rt, "no folder");
-    Ok(())
 }
 
 #[test]
-fn what_can_not_be_written_is_a_fault(rt: HostRuntime) -> Result<(), Fail> {
+fn what_can_not_be_written_is_a_fault(rt: HostRuntime) {
     let alloc = rt.alloc();
-    let dir = fresh(&rt, "faults")?;
+    let dir = fresh(&rt, "faults").expect(&rt, "a name");
     let name = format!(in alloc; "{dir}/t.swl").expect(&rt, "memory");
     let mut folder = HostFolder::new(rt);
     let mut root = folder.root(alloc, &dir).expect(&rt, "a log");
-    assert!(rt; folder.put(alloc, &dir, b"bytes") == Err(Trouble::Failed));
+    assert!(rt; matches!(folder.put(alloc, &dir, b"bytes"), Err(Trouble::Failed)));
     assert!(rt; folder.faults() == (0, 1));
-    assert!(rt; folder.put(alloc, "/dev/full", b"bytes") == Err(Trouble::Failed));
+    assert!(rt;
+        matches!(
+            folder.put(alloc, "/dev/full", b"bytes"),
+            Err(Trouble::Failed)
+        )
+    );
     assert!(rt; folder.faults() == (0, 2));
     fs::remove_file(&rt, &name).expect(&rt, "no file");
     fs::create_dir(&rt, &name).expect(&rt, "a folder");
-    assert!(rt; root.append(alloc, b"bytes") == Err(Trouble::Failed));
-    assert!(rt; folder.read(alloc, &name, 0, &mut [0; 8]) == Err(Trouble::Failed));
+    assert!(rt; matches!(root.append(alloc, b"bytes"), Err(Trouble::Failed)));
+    assert!(rt;
+        matches!(
+            folder.read(alloc, &name, 0, &mut [0; 8]),
+            Err(Trouble::Failed)
+        )
+    );
     assert!(rt; folder.faults() == (1, 2));
     // The folder counts the fault of a log that is given back.
     folder.discard(root);
     assert!(rt; folder.faults() == (1, 3));
     fs::remove_dir_all(&rt, &dir).expect(&rt, "no folder");
-    Ok(())
 }
 
 #[test]
-fn a_log_that_can_not_be_made_is_a_fault_of_the_one_above(rt: HostRuntime) -> Result<(), Fail> {
+fn a_log_that_can_not_be_made_is_a_fault_of_the_one_above(rt: HostRuntime) {
     let alloc = rt.alloc();
-    let dir = fresh(&rt, "children")?;
+    let dir = fresh(&rt, "children").expect(&rt, "a name");
     let name = format!(in alloc; "{dir}/t-3.1.swl").expect(&rt, "memory");
     let mut folder = HostFolder::new(rt);
     let mut root = folder.root(alloc, &dir).expect(&rt, "a log");
@@ -206,7 +199,6 @@ fn a_log_that_can_not_be_made_is_a_fault_of_the_one_above(rt: HostRuntime) -> Re
     // The folder counts the fault of a log that is sealed.
     assert!(rt; folder.seal(alloc, root).is_ok() && folder.faults() == (0, 1));
     fs::remove_dir_all(&rt, &dir).expect(&rt, "no folder");
-    Ok(())
 }
 
 // What someone else leaves of a log's file that held a header. Nothing where it is gone.
@@ -250,14 +242,14 @@ fn fails_to_seal(folder: &mut Host, alloc: Global, log: HostLog<HostRuntime>) ->
 }
 
 #[test]
-fn a_log_that_someone_else_changed_is_a_fault(rt: HostRuntime) -> Result<(), Fail> {
+fn a_log_that_someone_else_changed_is_a_fault(rt: HostRuntime) {
     let alloc = rt.alloc();
-    let dir = fresh(&rt, "changed")?;
+    let dir = fresh(&rt, "changed").expect(&rt, "a name");
     let name = format!(in alloc; "{dir}/t.swl").expect(&rt, "memory");
     for left in CHANGED {
         let mut folder = HostFolder::new(rt);
         let mut root = changed_log(&rt, &mut folder, alloc, &dir, *left);
-        assert!(rt; root.append(alloc, b"more") == Err(Trouble::Failed));
+        assert!(rt; matches!(root.append(alloc, b"more"), Err(Trouble::Failed)));
         assert!(rt; is_left(&mut folder, alloc, &name, *left));
         folder.discard(root);
         assert!(rt; folder.faults() == (0, 1));
@@ -266,7 +258,6 @@ fn a_log_that_someone_else_changed_is_a_fault(rt: HostRuntime) -> Result<(), Fai
         assert!(rt; is_left(&mut folder, alloc, &name, *left) && folder.faults() == (0, 2));
     }
     fs::remove_dir_all(&rt, &dir).expect(&rt, "no folder");
-    Ok(())
 }
 
 // A root's log in this folder, with a header.
@@ -277,70 +268,34 @@ fn begun(rt: &impl Abort, folder: &mut Host, alloc: Global, dir: &str) -> HostLo
 }
 
 #[test]
-fn two_runs_at_once_into_one_folder_are_not_both_done(rt: HostRuntime) -> Result<(), Fail> {
+fn two_runs_at_once_into_one_folder_are_not_both_done(rt: HostRuntime) {
     let alloc = rt.alloc();
-    let dir = fresh(&rt, "twice")?;
+    let dir = fresh(&rt, "twice").expect(&rt, "a name");
     let mut one = HostFolder::new(rt);
     let mut other = HostFolder::new(rt);
     let mut first = begun(&rt, &mut one, alloc, &dir);
     let mut second = begun(&rt, &mut other, alloc, &dir);
-    assert!(rt; first.append(alloc, b"one") == Ok(()));
-    assert!(rt; second.append(alloc, b"two") == Err(Trouble::Failed));
+    first.append(alloc, b"one").expect(&rt, "a whole piece");
+    assert!(rt; matches!(second.append(alloc, b"two"), Err(Trouble::Failed)));
     other.discard(second);
     // The other one begins anew before the first one's log is sealed.
     let second = begun(&rt, &mut other, alloc, &dir);
     assert!(rt; fails_to_seal(&mut one, alloc, first) && other.seal(alloc, second).is_ok());
     assert!(rt; one.faults() == (0, 1) && other.faults() == (0, 1));
     fs::remove_dir_all(&rt, &dir).expect(&rt, "no folder");
-    Ok(())
-}
-
-// Removes a file as soon as a lane of number 1 starts.
-#[derive(Drop)]
-struct Remover<R> {
-    rt: R,
-    name: String,
-}
-
-impl<R: Files + Sync> Gate for Remover<R> {
-    fn enter(&self, number: usize) {
-        if number == 1 {
-            let _ = fs::remove_file(&self.rt, &self.name);
-        }
-    }
 }
 
 #[test]
-fn a_run_whose_log_is_deleted_is_not_done(rt: HostRuntime) -> Result<(), Fail> {
+fn what_is_no_regular_file_has_no_size(rt: HostRuntime) {
     let alloc = rt.alloc();
-    let dir = fresh(&rt, "deleted")?;
-    let kernel = format!(in alloc; "{dir}/k").expect(&rt, "memory");
-    let name = format!(in alloc; "{dir}/t-0.1.swl").expect(&rt, "memory");
-    let gate = Remover { rt, name };
-    let mut folder = HostFolder::new(rt);
-    let text = b"array a i64 8\nmain { parallel 2 { for i in 0 .. 8 { a[i] = i } } }\n";
-    assert!(rt; folder.put(alloc, &kernel, text) == Ok(()));
-    let mut out = MemOut::new(alloc).expect(&rt, "memory");
-    let words = ["run", kernel.as_str(), dir.as_str(), "24"];
-    let status = asked(&rt, alloc, &mut folder, &words, &mut out, &gate);
-    assert!(rt; status == WRITE_FAULT && out.written().is_empty() && folder.faults() == (0, 1));
-    fs::remove_dir_all(&rt, &dir).expect(&rt, "no folder");
-    Ok(())
-}
-
-#[test]
-fn what_is_no_regular_file_has_no_size(rt: HostRuntime) -> Result<(), Fail> {
-    let alloc = rt.alloc();
-    let dir = fresh(&rt, "sizes")?;
+    let dir = fresh(&rt, "sizes").expect(&rt, "a name");
     fs::create_dir(&rt, &dir).expect(&rt, "a folder");
     let mut folder = HostFolder::new(rt);
-    assert!(rt; folder.size(alloc, &dir) == Err(Trouble::Failed));
+    assert!(rt; matches!(folder.size(alloc, &dir), Err(Trouble::Failed)));
     assert!(rt; folder.faults() == (1, 0));
-    let words = ["run", "/dev/null", dir.as_str(), "4096"];
-    let (status, out) = printed(&rt, alloc, &mut folder, &words, &[]);
-    assert!(rt; status == READ_FAULT && out.written().is_empty() && folder.faults() == (2, 0));
+    assert!(rt; matches!(folder.size(alloc, "/dev/null"), Err(Trouble::Failed)));
+    assert!(rt; folder.faults() == (2, 0));
     fs::remove_dir_all(&rt, &dir).expect(&rt, "no folder");
-    Ok(())
 }
 
 // What is left of an opened file, read in pieces of three bytes.
@@ -359,17 +314,19 @@ fn rest_of(rt: &impl Abort, alloc: Global, file: &mut HostFile) -> Vec<u8> {
 }
 
 #[test]
-fn an_opened_file_is_read_to_its_end(rt: HostRuntime) -> Result<(), Fail> {
+fn an_opened_file_is_read_to_its_end(rt: HostRuntime) {
     let alloc = rt.alloc();
-    let dir = fresh(&rt, "opened")?;
+    let dir = fresh(&rt, "opened").expect(&rt, "a name");
     let name = format!(in alloc; "{dir}/t.swl").expect(&rt, "memory");
     let none = format!(in alloc; "{name}/none").expect(&rt, "memory");
     let mut folder = HostFolder::new(rt);
-    assert!(rt; folder.put(alloc, &name, b"eleven byte") == Ok(()));
+    folder
+        .put(alloc, &name, b"eleven byte")
+        .expect(&rt, "a file");
     let mut file = folder
         .open_file(alloc, &name)
         .expect(&rt, "a file")
-        .ok_or("a file")?;
+        .expect(&rt, "a file");
     assert!(rt; rest_of(&rt, alloc, &mut file).as_slice() == b"eleven byte".as_slice());
     folder.close_file(file);
     assert!(rt; matches!(folder.open_file(alloc, &none), Ok(None)) && folder.faults() == (0, 0));
@@ -377,7 +334,6 @@ fn an_opened_file_is_read_to_its_end(rt: HostRuntime) -> Result<(), Fail> {
     assert!(rt; matches!(folder.open_file(alloc, &dir), Err(Trouble::Failed)));
     assert!(rt; folder.faults() == (1, 0));
     fs::remove_dir_all(&rt, &dir).expect(&rt, "no folder");
-    Ok(())
 }
 
 // A writer that takes three bytes a call, and writes them at a flush, which may fail.

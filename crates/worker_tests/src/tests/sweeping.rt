@@ -1,8 +1,8 @@
 //! In which order `check` reads and compares.
 
-use crate::tests::fixtures::{Case, EMPTY, END, Rec, Step, asked, folder_of, hold_tasks};
-use crate::{region, store};
+use super::asking::{asked, folder_of};
 use command_answer::{RACES, READ_FAULT};
+use made_folders::{END, Rec, Step, Task, region, store};
 use memory_environment::{MemFolder, MemOut};
 use std::alloc::Global;
 use std::marker::Send;
@@ -29,16 +29,13 @@ const WORKERS: u64 = 3;
 const CHECK: &[&str] = &["check", "d", "3"];
 
 // A root that forks two regions of two lanes each, which race in the second.
-const TWO_REGIONS: Case<'static> = Case {
-    tasks: &[
-        (&[], &[region!(1, 2), region!(2, 2), END]),
-        (&[(0, 0, 2)], &[store!(5, 4096), END]),
-        (&[(0, 1, 2)], &[store!(6, 4104), END]),
-        (&[(1, 0, 2)], &[store!(7, 4096), END]),
-        (&[(1, 1, 2)], &[store!(8, 4096), END]),
-    ],
-    ..EMPTY
-};
+const TWO_REGIONS: &[Task<'static>] = &[
+    (&[], &[region!(1, 2), region!(2, 2), END]),
+    (&[(0, 0, 2)], &[store!(5, 4096), END]),
+    (&[(0, 1, 2)], &[store!(6, 4104), END]),
+    (&[(1, 0, 2)], &[store!(7, 4096), END]),
+    (&[(1, 1, 2)], &[store!(8, 4096), END]),
+];
 
 // The status of a check by three workers where this call on the folder fails, and how many workers came.
 fn answered<R: Abort + Threads + Wait + Sync + Copy + Send + 'static>(
@@ -50,7 +47,7 @@ fn answered<R: Abort + Threads + Wait + Sync + Copy + Send + 'static>(
         come: AtomicU64::new(0),
     };
     let mut out = MemOut::new(alloc).expect(rt, "memory");
-    let mut folder = folder_of(rt, alloc, &TWO_REGIONS);
+    let mut folder = folder_of(rt, alloc, TWO_REGIONS);
     folder.fail(&[call]).expect(rt, "memory");
     let status = asked(rt, alloc, &mut folder, CHECK, &mut out, &gate);
     (status, gate.come.load(Ordering::SeqCst))
@@ -103,9 +100,7 @@ fn small_regions(rt: &impl Abort, alloc: Global) -> MemFolder {
     for (steps, records) in &lanes {
         tasks.push((steps, records)).expect(rt, "memory");
     }
-    let mut folder = MemFolder::new(alloc).expect(rt, "memory");
-    hold_tasks(rt, alloc, &mut folder, &tasks);
-    folder
+    folder_of(rt, alloc, &tasks)
 }
 
 fn race_in_each(rt: &impl Abort, alloc: Global) -> String {

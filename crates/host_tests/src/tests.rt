@@ -1,0 +1,1 @@
+mod host_files;
