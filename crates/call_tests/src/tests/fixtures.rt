@@ -1,6 +1,6 @@
 //! What the tests of the top call share: they call it over a folder and an output in memory.
 //!
-//! A test is a constant table of cases and one call: what is proved of a test grows with its statements, and hardly with a table.
+//! A test is a constant table of some ten cases and one call: what is proved of a table grows faster than the table.
 //!
 //! No clause rests on anything here, since tests compare what comes out. The contract of `sword` is met here alone: each proof that calls it
 //! carries all of it.
