@@ -1,7 +1,7 @@
 //! The commands that read a folder, and `gen`, whose folder is made from a number: what each prints and which status it returns.
 //!
-//! `check` prints exactly the line pairs of accesses that race, `show` every record, and `replay` whether the folder holds a run of a
-//! kernel; or each the folder's first bad place.
+//! `check` prints exactly the line pairs of accesses that race, `show` every record, and `replay` whether each log is the trace of its task of
+//! a kernel under what it read and drew; or each the folder's first bad place.
 #![tactic(auto)]
 
 mod checking;

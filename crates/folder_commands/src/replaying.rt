@@ -1,4 +1,4 @@
-//! `replay`: whether a folder holds a run of a kernel.
+//! `replay`: whether each log of a folder is the trace of its task of a kernel under what it read and drew.
 ghost use Rattle.std.specs.Prelude.{◌≡◌};
 ghost use Rattle.sw_base.specs.Environment.{Rose, WhereTold};
 ghost use Rattle.sw_base.specs.OnlyReads.{OnlyReads};

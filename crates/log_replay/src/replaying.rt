@@ -30,7 +30,7 @@ use sw_base::{Folder, Path};
 /// What is found of a folder and a kernel.
 #[derive(Drop)]
 pub enum Replayed {
-    /// The folder holds a run of the kernel.
+    /// Each log is the trace of its task under what it read and drew.
     Same,
     /// This record of this task's log is the first, in the order of the rows and then by number from 1, that isn't its trace's.
     Differs { path: Path, number: u32 },
@@ -116,8 +116,8 @@ fn compare_rows<F: Folder>(
     Ok(Replayed::Same)
 }
 
-/// Whether a folder holds a run of a kernel: each log is the trace of its task, from the locals that its parent has at the fork, under the
-/// values that the log reads and the chunk numbers that it draws. Or the first record that isn't the trace's.
+/// Whether each log of a folder is the trace of its task of a kernel, from the locals that its parent has at the fork, under the values that the
+/// log reads and the chunk numbers that it draws. Or the first record that isn't the trace's.
 pub fn replay<F: Folder>(
     alloc: Global,
     kernel: &Kernel,

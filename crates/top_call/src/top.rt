@@ -61,8 +61,8 @@ pub fn sword<R: Threads + Wait + Sync + Copy + Send + 'static, F: Folder, O: Out
     ensures show { (dir : List ℕ) → SaysShow (texts arguments.now) dir → WhereTold (F.state folder.old).content (λ c.
         AnswersForRun ShowsRecords c.held dir (O.written out.old) (O.written out.new) result) }
 
-    // `replay` answers that there is no kernel, or the first bad place of the folder; that the folder holds a run of the kernel, each log the
-    // whole trace of its task under what the log reads and draws; or the first record, in the order of the rows and then by number,
+    // `replay` answers that there is no kernel, or the first bad place of the folder; that each log is the whole trace of its task under what
+    // it read and drew, whether or not one run could read and draw that; or the first record, in the order of the rows and then by number,
     // that isn't the trace's.
     ensures replay { (kernel dir : List ℕ) → SaysReplay (texts arguments.now) kernel dir → WhereTold (F.state folder.old).content (λ c.
         Answers (ReplayDue c.held kernel dir) (O.written out.old) (O.written out.new) result) }
