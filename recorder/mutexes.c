@@ -146,7 +146,7 @@ static void let_go(Task *t, unsigned number)
 static void acquired(uint64_t id, const void *ra)
 {
     Task *t = cur;
-    if (!t || is_foreign(t)) return;
+    if (!t) return;
     cur = NULL;
     unsigned number = find_number(id);
     if (number) hold(t, number, line_of(ra));
@@ -156,10 +156,8 @@ static void acquired(uint64_t id, const void *ra)
 
 static void released(uint64_t id)
 {
-    Task *t = cur;
-    if (!t || is_foreign(t)) return;
-    unsigned number = find_number(id);
-    if (number) let_go(t, number);
+    unsigned number = cur ? find_number(id) : 0;
+    if (number) let_go(cur, number);
 }
 
 // ---- What the runtime tells ----
@@ -170,10 +168,9 @@ static void on_lock_destroy(ompt_mutex_t kind, ompt_wait_id_t id, const void *ra
 
 static void on_reduction(ompt_sync_region_t kind, ompt_scope_endpoint_t end, ompt_data_t *parallel, ompt_data_t *data, const void *ra)
 {
-    Task *t = cur;
-    if (!t || is_foreign(t)) return;
-    if (end == ompt_scope_begin) hold(t, REDUCTION, line_of(ra));
-    else let_go(t, REDUCTION);
+    if (!cur) return;
+    if (end == ompt_scope_begin) hold(cur, REDUCTION, line_of(ra));
+    else let_go(cur, REDUCTION);
 }
 
 #define ASK(name) &&ask(ompt_callback_##name, (ompt_callback_t)on_##name) == ompt_set_always
