@@ -9,7 +9,6 @@
 //
 // May assume: `gate` is held where it says so; a task is its thread's alone; a lane ends after all that were forked by it.
 #include "recorder.h"
-#include <fcntl.h>
 #include <sys/stat.h>
 
 enum {
@@ -51,19 +50,21 @@ static void log_name(char *text, const Run *run, const Task *t)
     strcat(text, ".swl");
 }
 
-// Adds to a file, or makes it new.
-static bool write_file(const char *name, bool new, const char *bytes, size_t count)
+// Whether all that was put into the file is there.
+static bool is_written(FILE *file)
 {
-    int file = open(name, O_WRONLY | O_CLOEXEC | (new ? O_CREAT | O_TRUNC : O_APPEND), 0666);
-    if (file < 0) return false;
-    while (count) {
-        ssize_t n = write(file, bytes, count);
-        if (n < 0 && errno == EINTR) continue;
-        if (n <= 0) break;
-        bytes += n;
-        count -= n;
-    }
-    return close(file) == 0 && !count;
+    bool failed = ferror(file);
+    return !fclose(file) && !failed;
+}
+
+// Adds to a log, or makes it new.
+static bool write_log(const char *name, bool new, const void *bytes, size_t count)
+{
+    FILE *file = fopen(name, new ? "we" : "ae");
+    if (!file) return false;
+    setbuf(file, NULL);
+    fwrite(bytes, count, 1, file);
+    return is_written(file);
 }
 
 static uint32_t in_block(const Task *t) { return t->at - t->log.block; }
@@ -78,7 +79,7 @@ void flush(Task *t)
     size_t bytes = (char *)t->at - from;
     if (t->written + in_block(t) > RECORDS) cannot(t, WHY_LONG);
     log_name(name, run, t);
-    if (!atomic_load(&run->why) && !write_file(name, !t->written, from, bytes)) cannot(t, WHY_FILES);
+    if (!atomic_load(&run->why) && !write_log(name, !t->written, from, bytes)) cannot(t, WHY_FILES);
     atomic_fetch_add_explicit(&run->bytes, bytes, memory_order_relaxed);
     t->written += in_block(t);
     t->at = t->since = t->log.block;
@@ -108,7 +109,7 @@ static void free_node(Node *node)
     free(node->region);
 }
 
-// A fault of the file is seen when it is closed.
+// Faults of the file are seen when it is closed.
 static void put_row(FILE *file, const Node *node, unsigned depth, uint64_t step[])
 {
     uint64_t row[6] = {__builtin_bswap64((uint64_t)depth << 32)};
@@ -128,8 +129,6 @@ static void put_record(FILE *file, unsigned kind, uint32_t line, uint64_t value)
     fwrite(&last, sizeof last, 1, file);
 }
 
-static bool is_closed(FILE *file) { return !(ferror(file) | fclose(file)); }
-
 static bool write_root(Run *run)
 {
     char name[PATH];
@@ -140,7 +139,7 @@ static bool write_root(Run *run)
     for (uint32_t r = 0; r < run->root.regions; r++) put_record(file, REGION, run->root.region[r]->line, run->root.region[r]->span);
     put_record(file, END, 1, 0);
     run->root.records = run->root.regions + 1;
-    return is_closed(file);
+    return is_written(file);
 }
 
 static bool write_index(Run *run)
@@ -153,7 +152,7 @@ static bool write_index(Run *run)
     if (!file) return false;
     fputs("SWIDX002", file);
     put_row(file, &run->root, 0, step);
-    return is_closed(file) && !rename(name, last);
+    return is_written(file) && !rename(name, last);
 }
 
 // The run's end, with the gate held.
@@ -324,7 +323,7 @@ bool folder_start(void)
 // Seals what is left, tells, and leaves DIR.end for who waits for the run's end.
 void folder_end(bool within)
 {
-    char name[PATH], text[64];
+    char name[PATH];
     close_gate();
     Run *last = now;
     now = NULL;
@@ -333,7 +332,8 @@ void folder_end(bool within)
     if (unsealed) say("%u of %u folders aren't recorded whole and have no index", unsealed, folders);
     if (folders > 1 && !ahead) say("%u folders, to be checked one by one: %s, and from %s.1 on", folders, folder, folder);
     folder_name(name, 0, ".end");
-    int n = snprintf(text, sizeof text, "folders %u\n", folders);
-    if (!write_file(name, true, text, n)) say("%s can't be written: %s", name, strerror(errno));
+    FILE *file = fopen(name, "we");
+    if (file) fprintf(file, "folders %u\n", folders);
+    if (!file || !is_written(file)) say("%s can't be written: %s", name, strerror(errno));
     open_gate();
 }

@@ -152,23 +152,29 @@ static Module *new_module(uint64_t address)
     return m;
 }
 
-__attribute__((noinline)) uint64_t find_place(const void *return_address)
+// Apart, since it is seldom needed.
+static __attribute__((noinline)) uint64_t learn_place(uint64_t address)
 {
-    uint64_t address = (uint64_t)return_address, place;
-    Module *m = known_module(address);
-    if (m && (place = atomic_load_explicit(&m->places[address - m->low], memory_order_relaxed))) return place;
     Task *keep = cur;
     int error = errno;
     cur = NULL;
     close_gate();
-    if (!m) m = known_module(address);
+    Module *m = known_module(address);
     if (!m) m = new_module(address);
-    place = m ? ask_place(m, address - 1) : UNKNOWN;
+    uint64_t place = m ? ask_place(m, address - 1) : UNKNOWN;
     if (m) atomic_store_explicit(&m->places[address - m->low], place, memory_order_relaxed);
     open_gate();
     cur = keep;
     errno = error;
     return place;
+}
+
+uint64_t find_place(const void *return_address)
+{
+    uint64_t address = (uint64_t)return_address;
+    const Module *m = known_module(address);
+    uint64_t place = m ? atomic_load_explicit(&m->places[address - m->low], memory_order_relaxed) : 0;
+    return place ? place : learn_place(address);
 }
 
 void lines_start(void)

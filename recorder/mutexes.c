@@ -5,20 +5,17 @@
 // or are held at a barrier or fork, are unlocked and locked again, with no access in between (`locks_may_move`: at each access the same set is
 // held). Of more than 8 the first 8 are logged, and that is told.
 //
-// Mutexes are numbered as they are first seen, anew in each region of the root. One that was destroyed has a new number when it is seen again.
+// A mutex's number is its slot in a table by address, which is emptied after each region of the root. One that was destroyed has a new number when it
+// is seen again.
 //
 // May assume: a lane acquires and releases in its own thread; within a reduction's section clang holds one lock, the same for all reductions.
 #include "recorder.h"
 #include <omp-tools.h>
 
-enum { SLOTS = 1 << 17, REDUCTION = 0 };
+enum { REDUCTION = 0, GONE = 1, MOST = 61440 }; // a number; what a slot has of a mutex that was destroyed; how many slots are used at most
 
-static struct {
-    _Atomic uint64_t id;
-    atomic_uint number; // 0: forgotten
-} slots[SLOTS];
-static unsigned numbers = 1, used; // with the gate held
-static uint32_t slot_used[SLOTS / 2];
+static _Atomic uint64_t slots[MUTEXES]; // changed with the gate held
+static unsigned used;
 
 // ---- Sets, and what the log has of them ----
 
@@ -64,37 +61,36 @@ void log_locks(Task *t)
 
 // ---- Numbers ----
 
-// The slot of an id, or the empty one where it would stand.
+static bool is_in(unsigned slot, uint64_t id) { return atomic_load_explicit(&slots[slot], memory_order_relaxed) == id; }
+
+// The slot of an id, or the free one where it would stand.
 static unsigned slot_of(uint64_t id)
 {
-    unsigned i = hash(id) >> 47;
-    for (uint64_t there; (there = atomic_load_explicit(&slots[i].id, memory_order_acquire)) && there != id;) i = (i + 1) % SLOTS;
+    unsigned i = hash(id) >> 48;
+    while (i == REDUCTION || !(is_in(i, 0) || is_in(i, id))) i = (i + 1) % MUTEXES;
     return i;
 }
 
 // 0 if there is none left.
 static unsigned find_number(uint64_t id)
 {
-    unsigned i = slot_of(id), number = atomic_load_explicit(&slots[i].number, memory_order_relaxed);
-    if (number && slots[i].id == id) return number;
+    unsigned i = slot_of(id);
+    if (is_in(i, id)) return i;
     close_gate();
     i = slot_of(id);
-    number = slots[i].number;
-    if (!number && numbers < MUTEXES && (slots[i].id || used < SLOTS / 2)) {
-        number = numbers++;
-        if (!slots[i].id) slot_used[used++] = i;
-        atomic_store_explicit(&slots[i].number, number, memory_order_relaxed);
-        atomic_store_explicit(&slots[i].id, id, memory_order_release);
+    if (!is_in(i, id) && used < MOST) {
+        used++;
+        atomic_store(&slots[i], id);
     }
     open_gate();
-    return number;
+    return is_in(i, id) ? i : 0;
 }
 
 static void forget(uint64_t id)
 {
     close_gate();
     unsigned i = slot_of(id);
-    if (slots[i].id) atomic_store_explicit(&slots[i].number, 0, memory_order_relaxed);
+    if (is_in(i, id)) atomic_store(&slots[i], GONE);
     open_gate();
 }
 
@@ -102,12 +98,8 @@ static void forget(uint64_t id)
 void mutexes_forget(void)
 {
     close_gate();
-    while (used) {
-        used--;
-        atomic_store(&slots[slot_used[used]].id, 0);
-        atomic_store(&slots[slot_used[used]].number, 0);
-    }
-    numbers = 1;
+    for (unsigned i = 0; used && i < MUTEXES; i++) atomic_store_explicit(&slots[i], 0, memory_order_relaxed);
+    used = 0;
     open_gate();
 }
 

@@ -111,8 +111,7 @@ static __attribute__((constructor(101))) void start(void)
 // What skipped.h calls from a program or library in which swordcc found accesses that the compiler doesn't instrument.
 void swordrec_skips(void) { cannot(NULL, WHY_SKIPPED); }
 
-void __real__exit(int) __attribute__((noreturn));
-void __real__Exit(int) __attribute__((noreturn));
+__attribute__((noreturn)) void __real__exit(int);
 
 __attribute__((noreturn)) void __wrap__exit(int status)
 {
@@ -120,8 +119,4 @@ __attribute__((noreturn)) void __wrap__exit(int status)
     __real__exit(status);
 }
 
-__attribute__((noreturn)) void __wrap__Exit(int status)
-{
-    finish();
-    __real__Exit(status);
-}
+__attribute__((noreturn, alias("__wrap__exit"))) void __wrap__Exit(int status);

@@ -32,8 +32,9 @@ enum { HEADER = 8, BLOCK = 2730 }; // bytes of a log's header, and records of a 
               " holds 4,194,304 records. Put a barrier into the loop, or give it fewer elements or more lanes") \
     WHY(FILES, "a file couldn't be written") \
     WHY(THERE, "a folder that is there already is left alone") \
-    WHY(MANY_MUTEXES, "more than 8 mutexes held at once, or more than 65,535 in a region of the root") \
+    WHY(MANY_MUTEXES, "more than 8 mutexes held at once, or more than 61,440 in a region of the root") \
     WHY(THREADS, "a thread that isn't OpenMP's made accesses while a region ran, or forked one") \
+    WHY(HANDLER, "a signal's handler ran in a lane: its accesses aren't recorded") \
     WHY(WITHIN, "the program ended within a region") \
     WHY(STACKS, "too many lanes of nested teams, or stacks of more than 64 MB") \
     WHY(FREED, "too much memory was freed between two barriers of the outermost team (SWORDREC_HOLD)") \
