@@ -1,4 +1,5 @@
 // races: none
+// too large for the plain checker
 // A lane stores to more elements than one log has room for, with a barrier now and then; the other lane stores to elements of the round before.
 #include <omp.h>
 #include <stdio.h>
