@@ -103,7 +103,7 @@ static uint64_t ask_place(const Module *m, uint64_t address)
     Dwarf_Line *row = NULL;
     int line, column;
     for (size_t i = 0; i < m->units && !row; i++) row = row_of(m->unit[i], address - m->base);
-    if (!row || dwarf_lineno(row, &line) || dwarf_linecol(row, &column) || line >= MILLION) return UNKNOWN;
+    if (!row || dwarf_lineno(row, &line) || dwarf_linecol(row, &column) || line < 1 || line >= MILLION) return UNKNOWN;
     unsigned file = file_number(dwarf_linesrc(row, NULL, NULL));
     if (file == FILES) return UNKNOWN;
     file_used[file] = true;

@@ -19,17 +19,20 @@ static unsigned used;
 
 // ---- Sets, and what the log has of them ----
 
+static bool is_held(const Task *t, const Set *set, unsigned n)
+{
+    unsigned k = 0;
+    while (set->count == n && k < n && set->mutex[k] == t->hold[k].mutex) k++;
+    return set->count == n && k == n;
+}
+
 // Finds the number of the interval under the mutexes that are held.
 void choose_epoch(Task *t)
 {
-    unsigned n = t->held < HELD ? t->held : HELD, sets = t->sets < SETS ? t->sets : SETS;
-    Set *set = NULL;
-    for (unsigned i = 0; i < sets && !set; i++) {
-        unsigned k = 0;
-        while (k < n && t->set[i].mutex[k] == t->hold[k].mutex) k++;
-        if (t->set[i].count == n && k == n) set = &t->set[i];
-    }
-    if (!set) {
+    unsigned n = t->held < HELD ? t->held : HELD;
+    Set *set = t->set, *end = set + (t->sets < SETS ? t->sets : SETS);
+    while (set < end && !is_held(t, set, n)) set++;
+    if (set == end) {
         set = &t->set[t->sets++ % SETS];
         set->count = n;
         for (unsigned k = 0; k < n; k++) set->mutex[k] = t->hold[k].mutex;

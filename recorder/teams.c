@@ -60,13 +60,6 @@ static void leave_lane(Task *t)
     me->spare = t;
 }
 
-static void close_lane(Task *t)
-{
-    end_segment(t, END, t->team->line, 0);
-    end_log(t);
-    leave_lane(t);
-}
-
 static void on_parallel_begin(ompt_data_t *data, const ompt_frame_t *frame, ompt_data_t *parallel, unsigned lanes, int flags, const void *ra)
 {
     Task *above = cur;
@@ -136,17 +129,10 @@ static void begin_lane(Team *team, ompt_data_t *data, unsigned span, unsigned la
 
 static void on_implicit_task(ompt_scope_endpoint_t end, ompt_data_t *parallel, ompt_data_t *data, unsigned span, unsigned lane, int flags)
 {
+    if (end == ompt_scope_end) return; // a lane has ended at its join
     if (flags & ompt_task_initial) {
-        Team *league = parallel ? parallel->ptr : NULL;
-        if (end == ompt_scope_begin) set(data, league ? &unrecorded : &root);
-        return;
-    }
-    if (end == ompt_scope_end) {
-        Task *t = task_in(data);
-        if (!t) return;
-        cur = NULL;
-        set(data, NULL);
-        close_lane(t);
+        const bool is_league = parallel && parallel->ptr;
+        set(data, is_league ? &unrecorded : &root);
         return;
     }
     Team *team = parallel->ptr;
@@ -203,10 +189,11 @@ static void on_sync_region(ompt_sync_region_t kind, ompt_scope_endpoint_t end, o
     if (end == ompt_scope_begin) {
         const bool unnamed = kind == ompt_sync_region_barrier_implicit && (!ra || ra == t->team->return_address);
         if (unnamed || kind == ompt_sync_region_barrier_implicit_parallel) {
-            Team *team = t->team;
             set(data, NULL);
-            close_lane(t);
-            happens_before(team);
+            end_segment(t, END, t->team->line, 0);
+            end_log(t);
+            happens_before(t->team);
+            leave_lane(t);
             return;
         }
         t->barriers++;
