@@ -144,8 +144,6 @@ static void note_range(unsigned kind, const void *from, size_t count, const void
 
 // ---- What the instrumentation calls ----
 
-#define RA __builtin_return_address(0)
-
 void __tsan_init(void) {}
 
 #define CALL(N, NAME, KIND) \

@@ -208,7 +208,7 @@ static bool new_run(void)
     int error = mkdir(name, 0777) ? errno : 0;
     // The first one may be there, if it isn't whole.
     if (error && (error != EEXIST || run->number || has_index(0))) {
-        cannot(NULL, error == EEXIST ? WHY_THERE : WHY_FILES);
+        cannot(NULL, WHY_FILES);
         say("%s: %s", name, error == EEXIST ? "it is there already and is left alone" : strerror(error));
         free(run);
         return false;

@@ -168,7 +168,6 @@ static void on_reduction(ompt_sync_region_t kind, ompt_scope_endpoint_t end, omp
     else let_go(cur, REDUCTION);
 }
 
-#define ASK(name) &&ask(ompt_callback_##name, (ompt_callback_t)on_##name) == ompt_set_always
 bool mutexes_start(void *set_callback)
 {
     ompt_set_callback_t ask = (ompt_set_callback_t)set_callback;
@@ -176,8 +175,6 @@ bool mutexes_start(void *set_callback)
 }
 
 // ---- Mutexes of pthreads ----
-
-#define RA __builtin_return_address(0)
 
 int __real_pthread_mutex_trylock(pthread_mutex_t *);
 int __real_pthread_mutex_timedlock(pthread_mutex_t *, const struct timespec *);

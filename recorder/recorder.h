@@ -31,7 +31,6 @@ enum { HEADER = 8, BLOCK = 2730 }; // bytes of a log's header, and records of a 
     WHY(LONG, "a lane has too many different accesses, or locks of mutexes, barriers and regions, between two barriers of the outermost team: a log" \
               " holds 4,194,304 records. Put a barrier into the loop, or give it fewer elements or more lanes") \
     WHY(FILES, "a file couldn't be written") \
-    WHY(THERE, "a folder that is there already is left alone") \
     WHY(MANY_MUTEXES, "more than 8 mutexes held at once, or more than 61,440 in a region of the root") \
     WHY(THREADS, "a thread that isn't OpenMP's made accesses while a region ran, or forked one") \
     WHY(HANDLER, "a signal's handler ran in a lane: its accesses aren't recorded") \
@@ -180,6 +179,10 @@ void cannot(Task *t, unsigned why); // for the task's folder, or from now on if 
 bool lost_for_good(void);
 uint64_t setting(const char *name, uint64_t least, uint64_t most, uint64_t otherwise);
 void *grown(void *items, size_t *room, size_t count, size_t size); // with room for one more item; NULL: no memory, and they stay
+
+// Of a call of the program, and where a tool asks the runtime for one more callback.
+#define RA __builtin_return_address(0)
+#define ASK(name) &&ask(ompt_callback_##name, (ompt_callback_t)on_##name) == ompt_set_always
 
 // accesses.c
 static inline uint64_t hash(uint64_t key) { return key * 0x9e3779b97f4a7c15ull; }

@@ -225,7 +225,6 @@ static void on_dependences(ompt_data_t *data, const ompt_dependence_t *dependenc
         if (dependences[i].dependence_type == ompt_dependence_type_sink) tell_of(WHY_DOACROSS);
 }
 
-#define ASK(name) &&ask(ompt_callback_##name, (ompt_callback_t)on_##name) == ompt_set_always
 bool teams_start(void *look_up)
 {
     ompt_set_callback_t ask = (ompt_set_callback_t)((ompt_function_lookup_t)look_up)("ompt_set_callback");
