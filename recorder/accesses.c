@@ -6,39 +6,28 @@
 // and joins. The root's accesses aren't logged at all, by `root_accesses_may_be_dropped`. Values are 0 and a site is a column, by
 // `values_do_not_matter`.
 //
-// May assume: `cur` is the lane that this thread runs, or NULL in the root and within the runtime, or `foreign` in a thread that isn't OpenMP's. No
-// signal handler that is compiled so interrupts it.
+// May assume: `cur` is the lane that this thread runs, or NULL in the root, within the runtime and in a thread that isn't OpenMP's. No signal handler
+// that is compiled so interrupts it.
 #include "recorder.h"
 
-static Seen nothing[SEEN];
-static Task foreign = {.seen = nothing, .pending = FOREIGN};
-__thread Task *cur = &foreign;
+__thread Task *cur;
+__thread bool ours;
 
-static inline bool is_ready(const Task *t) { return !t->pending && t->at < t->end; }
+static inline bool is_ready(const Task *t) { return !t->pending && !is_full(t); }
 
-// Does what must come before the next access. False: it isn't logged.
-static bool prepare(Task *t)
+// Does what must come before the next access.
+static void prepare(Task *t)
 {
-    if (t->pending & FOREIGN) {
-        if (atomic_load_explicit(&regions_now, memory_order_relaxed)) cannot(NULL, WHY_THREADS);
-        return false;
-    }
     if (t->pending & NEW_LOCKS) log_locks(t);
     if (t->pending & NEW_SEGMENT) open_segment(t);
     t->pending = 0;
-    if (t->at < t->end || make_room(t)) return true;
-    t->lost++;
-    return false;
+    if (is_full(t)) flush(t);
 }
 
 static inline bool is_of(const Seen *seen, uint64_t what, uint64_t when) { return seen->what == what && seen->when == when; }
 static inline uint64_t logged(const Seen *seen, unsigned kind) { return kind == WRITE ? seen->writes : seen->any; }
 
-static inline void put(Task *t, uint64_t head, uint64_t address)
-{
-    spell(t->at, head, address, 0);
-    t->at += RECORD;
-}
+static inline void put(Task *t, uint64_t head, uint64_t address) { *t->at++ = record(head, address, 0); }
 
 static inline uint64_t bit_of(uint64_t what, uint64_t address) { return 1ull << (address >> (what >> 3 & 3) & 63); }
 
@@ -52,11 +41,10 @@ static inline void add_bit(Seen *seen, unsigned kind, uint64_t bit)
 static void put_over_read(Task *t, uint64_t head, uint64_t address)
 {
     const uint64_t kind_and_site = 0xff00ffff00000000ull;
-    for (unsigned char *at = t->at; at > t->since && at > t->at - 4 * RECORD;) {
-        at -= RECORD;
-        uint64_t *word = (uint64_t *)at, old = __builtin_bswap64(word[0]);
-        if (word[1] == __builtin_bswap64(address) && old >> 56 == READ && !((old ^ head) & ~kind_and_site)) {
-            spell(at, head, address, 0);
+    for (Record *old = t->at; old > t->since && old > t->at - 4;) {
+        uint64_t was = __builtin_bswap64((--old)->head);
+        if (old->address == __builtin_bswap64(address) && was >> 56 == READ && !((was ^ head) & ~kind_and_site)) {
+            *old = record(head, address, 0);
             return;
         }
     }
@@ -68,7 +56,7 @@ static __attribute__((noinline)) void add_rare(Task *t, Seen *seen, uint64_t wha
 {
     unsigned kind = head >> 56;
     uint64_t bit = bit_of(what, address);
-    if (!is_ready(t) && !prepare(t)) return;
+    if (!is_ready(t)) prepare(t);
     if (!is_of(seen, what, when)) {
         Seen older = seen[1];
         seen[1] = seen[0];
@@ -109,7 +97,7 @@ static inline __attribute__((always_inline)) void note_at(Task *t, unsigned kind
 static __attribute__((noinline)) void note_slowly(unsigned kind, unsigned size, uint64_t address, const void *return_address)
 {
     Task *t = cur;
-    uint64_t place = place_of(return_address);
+    uint64_t place = find_place(return_address);
     if (place == UNKNOWN) cannot(NULL, WHY_LINES);
     if (atomic_load_explicit(&stack_names, memory_order_relaxed)) address = named(address);
     switch (size) { // so that it is known where note_at is compiled
@@ -120,11 +108,20 @@ static __attribute__((noinline)) void note_slowly(unsigned kind, unsigned size, 
     }
 }
 
+// An access of none of the lanes.
+static __attribute__((noinline)) void note_other(void)
+{
+    if (!ours && atomic_load_explicit(&regions_now, memory_order_relaxed)) cannot(NULL, WHY_THREADS);
+}
+
 static inline __attribute__((always_inline)) void note(unsigned kind, unsigned size, const volatile void *where, const void *return_address)
 {
     Task *t = cur;
     uint64_t address = (uint64_t)where, offset = (uint64_t)return_address - text_low;
-    if (!t) return;
+    if (!t) {
+        note_other();
+        return;
+    }
     uint64_t place = offset < atomic_load_explicit(&quick_length, memory_order_relaxed) ? atomic_load_explicit(&places[offset], memory_order_relaxed) : 0;
     const unsigned part = size == 16 ? 8 : size; // 16 bytes are two accesses
     for (unsigned from = 0; from < size; from += part) {
@@ -135,10 +132,9 @@ static inline __attribute__((always_inline)) void note(unsigned kind, unsigned s
 
 static void note_range(unsigned kind, const void *from, size_t count, const void *return_address)
 {
-    Task *t = cur;
     uint64_t at = (uint64_t)from, end = at + count;
-    if (!t || !count) return;
-    while (at < end) {
+    if (!cur && count) note_other();
+    while (cur && at < end) {
         unsigned size = 8;
         while (at % size || at + size > end) size /= 2;
         note_slowly(kind, size, at, return_address);
@@ -148,45 +144,29 @@ static void note_range(unsigned kind, const void *from, size_t count, const void
 
 // ---- What the instrumentation calls ----
 
-#define RA __builtin_return_address(0)
-
 void __tsan_init(void) {}
-void __tsan_func_entry(void *pc) {}
-void __tsan_func_exit(void) {}
-void __tsan_ignore_thread_begin(void) {}
-void __tsan_ignore_thread_end(void) {}
 
 #define CALL(N, NAME, KIND) \
-    void __tsan_##NAME##N(void *a) { note(KIND, N, a, RA); }
-#define PLAIN(N) \
-    CALL(N, read, READ) CALL(N, volatile_read, READ) CALL(N, unaligned_read, READ) CALL(N, unaligned_volatile_read, READ) \
-    CALL(N, write, WRITE) CALL(N, volatile_write, WRITE) CALL(N, unaligned_write, WRITE) CALL(N, unaligned_volatile_write, WRITE) \
-    CALL(N, read_write, WRITE) CALL(N, unaligned_read_write, WRITE)
+    void __tsan_##NAME##N(void *a) { note(KIND, N, a, RA); } \
+    void __tsan_unaligned_##NAME##N(void *a) { note(KIND, N, a, RA); }
+#define PLAIN(N) CALL(N, read, READ) CALL(N, write, WRITE) CALL(N, read_write, WRITE)
 PLAIN(1)
 PLAIN(2)
 PLAIN(4)
 PLAIN(8)
 PLAIN(16)
 
-void __tsan_read_range(void *a, size_t n) { note_range(READ, a, n, RA); }
-void __tsan_write_range(void *a, size_t n) { note_range(WRITE, a, n, RA); }
 void __tsan_vptr_read(void **a) { note(READ, 8, a, RA); }
 void __tsan_vptr_update(void **a, void *v) { note(WRITE, 8, a, RA); }
 
 // An atomic access of any kind is an Update, since only updates don't race with each other. Any order is done as the strongest one.
 #define FETCH(N, T, WHAT) \
     T __tsan_atomic##N##_fetch_##WHAT(volatile T *a, T v, int o) { note(UPDATE, N / 8, a, RA); return __atomic_fetch_##WHAT(a, v, 5); }
-#define COMPARE(N, T, HOW) \
-    int __tsan_atomic##N##_compare_exchange_##HOW(volatile T *a, T *c, T v, int o, int f) \
-    { \
-        note(UPDATE, N / 8, a, RA); \
-        return __atomic_compare_exchange_n(a, c, v, 0, 5, 5); \
-    }
 #define ATOMIC(N, T) \
     T __tsan_atomic##N##_load(const volatile T *a, int o) { note(UPDATE, N / 8, a, RA); return __atomic_load_n(a, 5); } \
     void __tsan_atomic##N##_store(volatile T *a, T v, int o) { note(UPDATE, N / 8, a, RA); __atomic_store_n(a, v, 5); } \
     T __tsan_atomic##N##_exchange(volatile T *a, T v, int o) { note(UPDATE, N / 8, a, RA); return __atomic_exchange_n(a, v, 5); } \
-    FETCH(N, T, add) FETCH(N, T, sub) FETCH(N, T, and) FETCH(N, T, or) FETCH(N, T, xor) FETCH(N, T, nand) COMPARE(N, T, strong) COMPARE(N, T, weak) \
+    FETCH(N, T, add) FETCH(N, T, sub) FETCH(N, T, and) FETCH(N, T, or) FETCH(N, T, xor) FETCH(N, T, nand) \
     T __tsan_atomic##N##_compare_exchange_val(volatile T *a, T c, T v, int o, int f) \
     { \
         note(UPDATE, N / 8, a, RA); \

@@ -9,12 +9,9 @@
 //
 // May assume: `gate` is held where it says so; a task is its thread's alone; a lane ends after all that were forked by it.
 #include "recorder.h"
-#include <fcntl.h>
-#include <stdio.h>
 #include <sys/stat.h>
 
 enum {
-    KEPT = 65536,         // records of a log that are kept for what isn't an access
     CUT = RECORDS / 4,    // records of a lane, and
     FILLED = 61440,       // tasks or intervals of a folder, from which on a team of the root is cut and a folder goes on in a new one
     MANY_UNSEALED = 8,    // folders without an index, after which nothing more is recorded: they stay on the disk
@@ -33,9 +30,7 @@ struct Run {
 static char folder[PATH - 256]; // absolute
 static Run *now;
 static uint64_t roll, ahead;
-static unsigned *waiting, waiting_count; // folders that had an index when it was last looked
 static unsigned folders, unsealed;
-static atomic_ullong all_lost;
 
 // ---- Files ----
 
@@ -55,67 +50,46 @@ static void log_name(char *text, const Run *run, const Task *t)
     strcat(text, ".swl");
 }
 
-// Adds to a file, or makes it new.
-static bool write_file(const char *name, bool new, const unsigned char *bytes, size_t count)
+// Whether all that was put into the file is there.
+static bool is_written(FILE *file)
 {
-    int file = open(name, O_WRONLY | O_CLOEXEC | (new ? O_CREAT | O_TRUNC : O_APPEND), 0666);
-    if (file < 0) return false;
-    while (count) {
-        ssize_t n = write(file, bytes, count);
-        if (n < 0 && errno == EINTR) continue;
-        if (n <= 0) break;
-        bytes += n;
-        count -= n;
-    }
-    return close(file) == 0 && !count;
+    bool failed = ferror(file);
+    return !fclose(file) && !failed;
 }
 
-static void flush(Task *t)
+// Adds to a log, or makes it new.
+static bool write_log(const char *name, bool new, const void *bytes, size_t count)
+{
+    FILE *file = fopen(name, new ? "we" : "ae");
+    if (!file) return false;
+    setbuf(file, NULL);
+    fwrite(bytes, count, 1, file);
+    return is_written(file);
+}
+
+static uint32_t in_block(const Task *t) { return t->at - t->log.block; }
+
+// A folder that won't be whole is written no further.
+void flush(Task *t)
 {
     char name[PATH];
     int error = errno;
-    log_name(name, t->part->run, t);
-    // The header lies before the block's records.
-    bool new = !t->written;
-    size_t before = new ? HEADER : 0;
-    if (!write_file(name, new, t->block - before, t->at - t->block + before)) cannot(t, WHY_FILES);
-    t->written += (t->at - t->block) / RECORD;
-    atomic_fetch_add_explicit(&t->part->run->bytes, t->at - t->block, memory_order_relaxed);
-    t->at = t->since = t->block;
+    Run *run = t->part->run;
+    const char *from = t->written ? (char *)t->log.block : (char *)&t->log;
+    size_t bytes = (char *)t->at - from;
+    if (t->written + in_block(t) > RECORDS) cannot(t, WHY_LONG);
+    log_name(name, run, t);
+    if (!atomic_load(&run->why) && !write_log(name, !t->written, from, bytes)) cannot(t, WHY_FILES);
+    atomic_fetch_add_explicit(&run->bytes, bytes, memory_order_relaxed);
+    t->written += in_block(t);
+    t->at = t->since = t->log.block;
     errno = error;
-}
-
-// ---- Records ----
-
-static uint32_t records(const Task *t) { return t->written + (t->at - t->block) / RECORD; }
-
-static void set_end(Task *t)
-{
-    uint64_t left = t->written < RECORDS - KEPT ? RECORDS - KEPT - t->written : 0;
-    t->end = t->block + (left * RECORD < BLOCK ? left * RECORD : BLOCK);
-}
-
-// Called where no access has room.
-bool make_room(Task *t)
-{
-    if (records(t) >= RECORDS - KEPT) return false;
-    flush(t);
-    set_end(t);
-    return true;
 }
 
 void put_mark(Task *t, unsigned kind, uint32_t line, uint64_t address, uint64_t value)
 {
-    if (records(t) >= RECORDS - 1 && kind != END) {
-        cannot(t, WHY_FULL);
-        return;
-    }
-    if (t->at == t->block + BLOCK) {
-        flush(t);
-        set_end(t);
-    }
-    spell(t->at, (uint64_t)kind << 56 | line, address, value);
-    t->at += RECORD;
+    if (is_full(t)) flush(t);
+    *t->at++ = record((uint64_t)kind << 56 | line, address, value);
     t->since = t->at;
 }
 
@@ -135,51 +109,50 @@ static void free_node(Node *node)
     free(node->region);
 }
 
-static unsigned char *put_rows(unsigned char *to, const Node *node, unsigned depth, uint64_t step[])
+// Faults of the file are seen when it is closed.
+static void put_row(FILE *file, const Node *node, unsigned depth, uint64_t step[])
 {
-    uint64_t *row = (uint64_t *)to;
-    row[0] = __builtin_bswap64((uint64_t)depth << 32);
-    for (unsigned d = 0; d < DEPTH; d++) row[1 + d] = d < depth ? __builtin_bswap64(step[d]) : 0;
+    uint64_t row[6] = {__builtin_bswap64((uint64_t)depth << 32)};
+    for (unsigned d = 0; d < depth; d++) row[1 + d] = __builtin_bswap64(step[d]);
     row[5] = __builtin_bswap64(node->records);
-    to += 48;
+    fwrite(row, sizeof row, 1, file);
     for (uint32_t r = 0; r < node->regions; r++)
         for (unsigned l = 0; l < node->region[r]->span; l++) {
             step[depth] = (uint64_t)r << 32 | (uint64_t)l << 16 | node->region[r]->span;
-            to = put_rows(to, &node->region[r]->lane[l], depth + 1, step);
+            put_row(file, &node->region[r]->lane[l], depth + 1, step);
         }
-    return to;
+}
+
+static void put_record(FILE *file, unsigned kind, uint32_t line, uint64_t value)
+{
+    Record last = record((uint64_t)kind << 56 | line, 0, value);
+    fwrite(&last, sizeof last, 1, file);
 }
 
 static bool write_root(Run *run)
 {
     char name[PATH];
-    size_t size = HEADER + (run->root.regions + 1ul) * RECORD;
-    unsigned char *bytes = malloc(size), *at = bytes + HEADER;
-    if (!bytes) return false;
-    memcpy(bytes, "SWLOG002", HEADER);
-    for (uint32_t r = 0; r < run->root.regions; r++, at += RECORD) spell(at, (uint64_t)REGION << 56 | run->root.region[r]->line, 0, run->root.region[r]->span);
-    spell(at, (uint64_t)END << 56 | 1, 0, 0);
-    run->root.records = run->root.regions + 1;
     log_name(name, run, NULL);
-    bool good = write_file(name, true, bytes, size);
-    free(bytes);
-    return good;
+    FILE *file = fopen(name, "we");
+    if (!file) return false;
+    fputs("SWLOG002", file);
+    for (uint32_t r = 0; r < run->root.regions; r++) put_record(file, REGION, run->root.region[r]->line, run->root.region[r]->span);
+    put_record(file, END, 1, 0);
+    run->root.records = run->root.regions + 1;
+    return is_written(file);
 }
 
 static bool write_index(Run *run)
 {
     char name[PATH], last[PATH];
     uint64_t step[DEPTH + 1];
-    size_t size = HEADER + atomic_load(&run->tasks) * 48ul;
-    unsigned char *bytes = malloc(size);
-    if (!bytes) return false;
-    memcpy(bytes, "SWIDX002", HEADER);
-    put_rows(bytes + HEADER, &run->root, 0, step);
     folder_name(name, run->number, "/index.part");
     folder_name(last, run->number, "/index.swi");
-    bool good = write_file(name, true, bytes, size) && !rename(name, last);
-    free(bytes);
-    return good;
+    FILE *file = fopen(name, "we");
+    if (!file) return false;
+    fputs("SWIDX002", file);
+    put_row(file, &run->root, 0, step);
+    return is_written(file) && !rename(name, last);
 }
 
 // The run's end, with the gate held.
@@ -191,32 +164,37 @@ static void seal(Run *run)
         good = false;
     }
     if (!good && ++unsealed == MANY_UNSEALED) cannot(NULL, WHY_UNSEALED);
-    if (good && ahead) waiting[waiting_count++] = run->number;
     free_node(&run->root);
     free(run);
+}
+
+static bool has_index(unsigned number)
+{
+    char name[PATH];
+    folder_name(name, number, "/index.swi");
+    return access(name, F_OK) == 0;
+}
+
+static unsigned count_whole(void)
+{
+    unsigned whole = 0;
+    for (unsigned i = 0; i < folders; i++) whole += has_index(i);
+    return whole;
 }
 
 // Waits while so many folders as may be ahead are still there: who checks them drops them.
 static void wait_for_room(void)
 {
-    for (unsigned turn = 0; ahead; turn++) {
-        char name[PATH];
-        unsigned there = 0;
-        for (unsigned i = 0; i < waiting_count; i++) {
-            folder_name(name, waiting[i], "/index.swi");
-            if (access(name, F_OK) == 0) waiting[there++] = waiting[i];
-        }
-        waiting_count = there;
-        if (there < ahead) return;
-        if (turn == 500) say("waits until one of %u folders is checked and gone (SWORDREC_AHEAD)", there);
-        usleep(20000);
+    for (unsigned turn = 0; ahead && count_whole() >= ahead; turn++) {
+        if (turn == 500) say("waits until one of %u folders is checked and gone (SWORDREC_AHEAD)", (unsigned)ahead);
+        usleep(20000); // if it is woken earlier, it looks earlier
     }
 }
 
 // Begins a folder. False: it can't be; that is told.
 static bool new_run(void)
 {
-    char name[PATH], index[PATH];
+    char name[PATH];
     if (lost_for_good()) return false;
     wait_for_room();
     Run *run = calloc(1, sizeof *run);
@@ -227,11 +205,10 @@ static bool new_run(void)
     run->number = folders;
     atomic_store(&run->tasks, 1);
     folder_name(name, run->number, "");
-    folder_name(index, run->number, "/index.swi");
     int error = mkdir(name, 0777) ? errno : 0;
     // The first one may be there, if it isn't whole.
-    if (error && (error != EEXIST || run->number || access(index, F_OK) == 0)) {
-        cannot(NULL, error == EEXIST ? WHY_THERE : WHY_FILES);
+    if (error && (error != EEXIST || run->number || has_index(0))) {
+        cannot(NULL, WHY_FILES);
         say("%s: %s", name, error == EEXIST ? "it is there already and is left alone" : strerror(error));
         free(run);
         return false;
@@ -241,13 +218,13 @@ static bool new_run(void)
     return true;
 }
 
-static bool is_full(const Run *run)
+static bool is_large(const Run *run)
 {
     return atomic_load_explicit(&run->tasks, memory_order_relaxed) > FILLED || atomic_load_explicit(&run->segments, memory_order_relaxed) > FILLED ||
            atomic_load_explicit(&run->bytes, memory_order_relaxed) > roll;
 }
 
-bool part_is_big(const Task *t) { return t->depth == 1 && (records(t) > CUT || is_full(t->part->run)); }
+bool part_is_big(const Task *t) { return t->depth == 1 && (t->written + in_block(t) > CUT || is_large(t->part->run)); }
 
 static bool leave_run(void)
 {
@@ -264,7 +241,7 @@ static Part *add_part(const Team *team, unsigned span)
 {
     Task *above = team->above;
     if (!above && !now) return NULL;
-    if (!above && (is_full(now) || atomic_load(&now->why)) && !leave_run()) return NULL;
+    if (!above && (is_large(now) || atomic_load(&now->why)) && !leave_run()) return NULL;
     Run *run = above ? above->part->run : now;
     Node *node = above ? above->node : &run->root;
     Part *part = calloc(1, sizeof *part + span * sizeof *part->lane), **regions = grown(node->region, &node->room, node->regions, sizeof part);
@@ -284,23 +261,14 @@ static Part *add_part(const Team *team, unsigned span)
 
 void fail_folder(const Part *part, unsigned why) { atomic_fetch_or_explicit(&part->run->why, 1u << why, memory_order_relaxed); }
 
-// The lanes of a team begin in any order, and the first of them adds its region.
-Part *part_of(Team *team, unsigned span)
+// The lanes of a team come in any order, and the first of them adds its region.
+Part *part_at(Part **place, Team *team, unsigned span)
 {
     close_gate();
-    if (!team->first && !team->failed) team->failed = !(team->first = add_part(team, span));
-    Part *part = team->first;
+    if (!*place && !team->failed) team->failed = !(*place = add_part(team, span));
+    Part *part = *place;
     open_gate();
     return part;
-}
-
-Part *part_after(Part *part, Team *team)
-{
-    close_gate();
-    if (!part->next && !team->failed) team->failed = !(part->next = add_part(team, part->span));
-    Part *next = part->next;
-    open_gate();
-    return next;
 }
 
 void begin_log(Task *t, Part *part)
@@ -309,9 +277,8 @@ void begin_log(Task *t, Part *part)
     t->node = &part->lane[t->lane];
     t->step_region[t->depth - 1] = part->number;
     t->written = 0;
-    t->at = t->since = t->block;
-    memcpy(t->block - HEADER, "SWLOG002", HEADER);
-    set_end(t);
+    memcpy(t->log.header, "SWLOG002", HEADER);
+    t->at = t->since = t->log.block;
 }
 
 // After its End.
@@ -320,9 +287,6 @@ void end_log(Task *t)
     Run *run = t->part->run;
     flush(t);
     t->node->records = t->written;
-    if (t->lost) cannot(t, WHY_LONG);
-    atomic_fetch_add_explicit(&all_lost, t->lost, memory_order_relaxed);
-    t->lost = 0;
     close_gate();
     if (!--run->open && run->closed) seal(run);
     t->part = NULL;
@@ -331,37 +295,45 @@ void end_log(Task *t)
 
 // ---- Start and end ----
 
+// False: nothing can be recorded, and why was told.
 bool folder_start(void)
 {
     const char *asked = getenv("SWORDREC_DIR");
     char name[PATH], here[PATH] = "";
     if (!asked || !*asked) asked = "swordlogs";
-    if (asked[0] != '/' && !getcwd(here, sizeof here)) return false;
+    if (asked[0] != '/' && !getcwd(here, sizeof here)) {
+        say("the directory that it is in: %s", strerror(errno));
+        return false;
+    }
     int n = snprintf(folder, sizeof folder, "%s%s%s", here, here[0] ? "/" : "", asked);
-    if (n < 0 || (size_t)n >= sizeof folder) return false;
+    if (n < 0 || (size_t)n >= sizeof folder) {
+        say("%s: %s", asked, strerror(ENAMETOOLONG));
+        return false;
+    }
     roll = setting("SWORDREC_ROLL", 0, ~0ull, ~0ull);
     ahead = setting("SWORDREC_AHEAD", 0, 1000, 0);
-    if (ahead && !(waiting = calloc(ahead + 3, sizeof *waiting))) return false;
     folder_name(name, 0, ".end");
-    unlink(name);
+    if (unlink(name) && errno != ENOENT) {
+        say("%s: %s", name, strerror(errno));
+        return false;
+    }
     return new_run();
 }
 
 // Seals what is left, tells, and leaves DIR.end for who waits for the run's end.
 void folder_end(bool within)
 {
-    char name[PATH], text[64];
+    char name[PATH];
     close_gate();
     Run *last = now;
     now = NULL;
     if (within) unsealed += last != NULL; // its lanes may still run
     else if (last) seal(last);
-    uint64_t lost = atomic_load(&all_lost);
-    if (lost) say("%llu accesses aren't in the logs", (unsigned long long)lost);
     if (unsealed) say("%u of %u folders aren't recorded whole and have no index", unsealed, folders);
     if (folders > 1 && !ahead) say("%u folders, to be checked one by one: %s, and from %s.1 on", folders, folder, folder);
     folder_name(name, 0, ".end");
-    int n = snprintf(text, sizeof text, "folders %u\n", folders);
-    if (!write_file(name, true, (unsigned char *)text, n)) say("%s can't be written", name);
+    FILE *file = fopen(name, "we");
+    if (file) fprintf(file, "folders %u\n", folders);
+    if (!file || !is_written(file)) say("%s can't be written: %s", name, strerror(errno));
     open_gate();
 }

@@ -1,199 +1,190 @@
 // Lines: from the return address of a call of the instrumentation to the line and column of the access, by the line tables that -g leaves in the
 // program and its shared libraries, as libdw reads them.
 //
-// A place is found once for each address and kept: for the program's own text in an array with 8 bytes for each byte of it (only pages with calls
-// are touched), for libraries in a table. Code without a line of its own (line 0: merged or moved by the optimizer) has that of what stands before
+// A place is found once for each address and kept, in an array with 8 bytes for each byte of the program's or library's text (only pages with calls
+// are touched). Code without a line of its own (line 0: merged or moved by the optimizer) has that of what stands before
 // it. Of the first file a line is itself, and of file k it is k million more, so that two files' lines differ.
 //
-// May assume: a library that was loaded stays where it is. swordcc puts code at LOWEST, since what the linker left out has its lines from 0 on.
+// May assume: a library that was loaded stays where it is. swordcc puts code at 16 MB, since what the linker left out has its lines from 0 on.
 #include "recorder.h"
-#include <dlfcn.h>
 #include <elfutils/libdw.h>
 #include <fcntl.h>
 #include <link.h>
-#include <stdio.h>
 
-enum { FILES = 4000, MILLION = 1000000, OTHERS = 1 << 16, LOWEST = 1 << 24 };
+enum { FILES = 4000, MILLION = 1000000 };
 
-// What holds from its address on, up to the next row's.
+// The rows of a unit's line table, in order of their addresses.
 typedef struct {
-    uint64_t address;
-    uint32_t line; // 0: none of its own
-    uint16_t column, file; // file FILES: no code, or none of which the line can be told
-} Row;
+    Dwarf_Lines *row;
+    size_t rows;
+} Unit;
 
-// Rows in order of their addresses.
+// The program, or a library.
 typedef struct Module {
     struct Module *next;
-    uint64_t base;
-    Row *row;
-    size_t rows, room;
+    const char *path; // "": the program
+    uint64_t base, low, length; // where it is, and the return addresses that it may have
+    _Atomic uint64_t *places;   // by return address from `low` on
+    Unit *unit;
+    size_t units, room;
 } Module;
 
-static Module *modules;
-static char *files[FILES];
+static _Atomic(Module *) modules;
+static const char *files[FILES];
 static bool file_used[FILES];
 static unsigned files_count;
 uint64_t text_low, text_length;
 atomic_ullong quick_length;
 _Atomic uint64_t *places;
-static struct {
-    _Atomic uint64_t address, place;
-} others[OTHERS];
-static unsigned others_count;
 
 // ---- Line tables ----
 
+// FILES: there is no room.
 static unsigned file_number(const char *path)
 {
     for (unsigned i = 0; path && i < files_count; i++)
         if (!strcmp(files[i], path)) return i;
-    if (!path || files_count == FILES || !(files[files_count] = strdup(path))) return FILES;
+    if (!path || files_count == FILES) return FILES;
+    files[files_count] = path;
     return files_count++;
 }
 
-// Adds a row; of those at one address the last with a line stands. False: no memory.
-static bool add_row(Module *m, Row row)
+// Keeps a unit, and numbers its files by their first rows. False: no memory.
+static bool add_unit(Module *m, Unit unit)
 {
-    Row *last = m->rows ? &m->row[m->rows - 1] : NULL;
-    if (last && last->address == row.address && last->file < FILES && row.file < FILES) {
-        if (row.line) *last = row;
-        return true;
-    }
-    Row *rows = grown(m->row, &m->room, m->rows, sizeof row);
-    if (!rows) return false;
-    m->row = rows;
-    m->row[m->rows++] = row;
-    return true;
-}
-
-// Adds a unit's rows, which libdw has put in order of their addresses.
-static bool add_unit(Module *m, Dwarf_Lines *lines, size_t count)
-{
-    const char *path = NULL;
-    unsigned file = FILES;
-    for (size_t i = 0; i < count; i++) {
-        Dwarf_Line *at = dwarf_onesrcline(lines, i);
-        Dwarf_Addr address;
-        int line, column;
-        bool end;
-        if (dwarf_lineaddr(at, &address) || dwarf_lineno(at, &line) || dwarf_linecol(at, &column) || dwarf_lineendsequence(at, &end)) return false;
-        if (address < LOWEST) continue;
-        const char *of = dwarf_linesrc(at, NULL, NULL);
-        if (of != path) file = file_number(path = of);
-        Row row = {address, line, column > 65535 ? 65535 : column, end || line < 0 || line >= MILLION ? FILES : file};
-        if (!add_row(m, row)) return false;
+    Unit *units = grown(m->unit, &m->room, m->units, sizeof unit);
+    if (!units) return false;
+    m->unit = units;
+    m->unit[m->units++] = unit;
+    const char *last = NULL;
+    for (size_t i = 0; i < unit.rows; i++) {
+        const char *path = dwarf_linesrc(dwarf_onesrcline(unit.row, i), NULL, NULL);
+        if (path != last) file_number(last = path);
     }
     return true;
 }
 
-static int by_address(const void *a, const void *b)
+// Reads all tables, which stay in memory. What can't be read has no rows, so its lines aren't known, which is told.
+static void read_module(Module *m)
 {
-    const Row *x = a, *y = b;
-    if (x->address != y->address) return x->address < y->address ? -1 : 1;
-    return (y->file == FILES) - (x->file == FILES); // where one function ends and another begins
-}
-
-// What can't be read has no rows, so its lines aren't known, which is told.
-static void read_module(Module *m, const char *path)
-{
-    int file = open(path, O_RDONLY | O_CLOEXEC);
+    int file = open(m->path[0] ? m->path : "/proc/self/exe", O_RDONLY | O_CLOEXEC);
     Dwarf *dwarf = file < 0 ? NULL : dwarf_begin(file, DWARF_C_READ);
-    Dwarf_Off at = 0, next;
-    Dwarf_CU *unit = NULL;
-    Dwarf_Lines *lines;
-    size_t count;
-    bool good = true;
-    while (dwarf && good && !dwarf_next_lines(dwarf, at, &next, &unit, NULL, NULL, &lines, &count)) {
-        good = add_unit(m, lines, count);
-        at = next;
-    }
-    if (!good) m->rows = 0;
-    if (m->rows) qsort(m->row, m->rows, sizeof *m->row, by_address);
-    if (dwarf) dwarf_end(dwarf);
+    Dwarf_Off at = 0;
+    Dwarf_CU *within = NULL;
+    Unit unit;
+    while (dwarf && !dwarf_next_lines(dwarf, at, &at, &within, NULL, NULL, &unit.row, &unit.rows) && add_unit(m, unit)) {}
     if (file >= 0) close(file);
-}
-
-static Module *module_of(const void *address)
-{
-    struct dl_find_object found; // unlike dladdr this takes no lock
-    if (_dl_find_object((void *)address, &found) || !found.dlfo_link_map) return NULL;
-    const struct link_map *map = found.dlfo_link_map;
-    Module *m;
-    for (m = modules; m; m = m->next)
-        if (m->base == map->l_addr) return m;
-    if (!(m = calloc(1, sizeof *m))) return NULL;
-    m->base = map->l_addr;
-    m->next = modules;
-    modules = m;
-    read_module(m, map->l_name[0] ? map->l_name : "/proc/self/exe");
-    return m;
 }
 
 // ---- Places ----
 
-static const Row *row_of(const Module *m, uint64_t address)
+// The row that an address has in this unit: the last one up to it that has a line. NULL: the unit hasn't its code, or no line for it.
+static Dwarf_Line *row_of(Unit unit, Dwarf_Addr address)
 {
-    size_t low = 0, high = m->rows;
+    size_t low = 0, high = unit.rows;
     while (low < high) {
         size_t middle = (low + high) / 2;
-        if (m->row[middle].address <= address) low = middle + 1;
+        Dwarf_Addr at;
+        if (!dwarf_lineaddr(dwarf_onesrcline(unit.row, middle), &at) && at <= address) low = middle + 1;
         else high = middle;
     }
-    while (low && !m->row[low - 1].line && m->row[low - 1].file < FILES) low--;
-    return low && m->row[low - 1].file < FILES ? &m->row[low - 1] : NULL;
+    while (low) {
+        Dwarf_Line *row = dwarf_onesrcline(unit.row, --low);
+        bool end;
+        int line;
+        if (dwarf_lineendsequence(row, &end) || end || dwarf_lineno(row, &line)) return NULL;
+        if (line) return row;
+    }
+    return NULL;
 }
 
-static uint64_t ask_place(uint64_t address)
+static uint64_t ask_place(const Module *m, uint64_t address)
 {
-    const Module *m = module_of((const void *)address);
-    const Row *row = m ? row_of(m, address - m->base) : NULL;
-    if (!row) return UNKNOWN;
-    file_used[row->file] = true;
-    return (uint64_t)row->column << 32 | (row->line + (uint64_t)MILLION * row->file);
+    Dwarf_Line *row = NULL;
+    int line, column;
+    for (size_t i = 0; i < m->units && !row; i++) row = row_of(m->unit[i], address - m->base);
+    if (!row || dwarf_lineno(row, &line) || dwarf_linecol(row, &column) || line < 1 || line >= MILLION) return UNKNOWN;
+    unsigned file = file_number(dwarf_linesrc(row, NULL, NULL));
+    if (file == FILES) return UNKNOWN;
+    file_used[file] = true;
+    return (uint64_t)(column > 65535 ? 65535 : column) << 32 | (line + (uint64_t)MILLION * file);
 }
 
-__attribute__((noinline)) uint64_t find_place(uint64_t address)
+// Looks for the program or library that has the code.
+static int find_module(struct dl_phdr_info *info, size_t size, void *module)
 {
-    uint64_t offset = address - text_low, place = 0;
-    unsigned i = hash(address) >> 48;
-    if (offset >= text_length)
-        for (uint64_t there; (there = atomic_load_explicit(&others[i].address, memory_order_acquire)); i = (i + 1) % OTHERS)
-            if (there == address) return atomic_load_explicit(&others[i].place, memory_order_relaxed);
+    Module *m = module;
+    for (int i = 0; i < info->dlpi_phnum; i++) {
+        const ElfW(Phdr) *part = &info->dlpi_phdr[i];
+        uint64_t low = info->dlpi_addr + part->p_vaddr + 1; // what the first byte calls returns behind it
+        if (part->p_type != PT_LOAD || !(part->p_flags & PF_X) || m->low - low >= part->p_memsz) continue;
+        m->base = info->dlpi_addr;
+        m->low = low;
+        m->length = part->p_memsz;
+        m->path = info->dlpi_name;
+        return 1;
+    }
+    return 0;
+}
+
+static Module *known_module(uint64_t address)
+{
+    Module *m = atomic_load_explicit(&modules, memory_order_acquire);
+    while (m && address - m->low >= m->length) m = m->next;
+    return m;
+}
+
+// With the gate held. NULL: there is no such code, or no memory.
+static Module *new_module(uint64_t address)
+{
+    Module *m = calloc(1, sizeof *m);
+    if (!m) return NULL;
+    m->low = address;
+    if (dl_iterate_phdr(find_module, m))
+        m->places = mmap(NULL, m->length * 8, PROT_READ | PROT_WRITE, MAP_PRIVATE | MAP_ANONYMOUS | MAP_NORESERVE, -1, 0);
+    if (!m->length || m->places == MAP_FAILED) {
+        free(m);
+        return NULL;
+    }
+    read_module(m);
+    m->next = atomic_load(&modules);
+    atomic_store(&modules, m);
+    return m;
+}
+
+// Apart, since it is seldom needed.
+static __attribute__((noinline)) uint64_t learn_place(uint64_t address)
+{
     Task *keep = cur;
     int error = errno;
     cur = NULL;
     close_gate();
-    place = ask_place(address - 1);
-    if (offset < text_length) {
-        atomic_store_explicit(&places[offset], place, memory_order_relaxed);
-    } else if (others_count < OTHERS / 2) {
-        while (others[i].address && others[i].address != address) i = (i + 1) % OTHERS;
-        others_count += !others[i].address;
-        atomic_store_explicit(&others[i].place, place, memory_order_relaxed);
-        atomic_store_explicit(&others[i].address, address, memory_order_release);
-    } // else it is asked each time
+    Module *m = known_module(address);
+    if (!m) m = new_module(address);
+    uint64_t place = m ? ask_place(m, address - 1) : UNKNOWN;
+    if (m) atomic_store_explicit(&m->places[address - m->low], place, memory_order_relaxed);
     open_gate();
     cur = keep;
     errno = error;
     return place;
 }
 
-static int find_text(struct dl_phdr_info *info, size_t size, void *data)
+uint64_t find_place(const void *return_address)
 {
-    for (int i = 0; i < info->dlpi_phnum; i++)
-        if (info->dlpi_phdr[i].p_type == PT_LOAD && info->dlpi_phdr[i].p_flags & PF_X) {
-            text_low = info->dlpi_addr + info->dlpi_phdr[i].p_vaddr;
-            text_length = info->dlpi_phdr[i].p_memsz + 1;
-        }
-    return 1; // the program is the first
+    uint64_t address = (uint64_t)return_address;
+    const Module *m = known_module(address);
+    uint64_t place = m ? atomic_load_explicit(&m->places[address - m->low], memory_order_relaxed) : 0;
+    return place ? place : learn_place(address);
 }
 
 void lines_start(void)
 {
-    dl_iterate_phdr(find_text, NULL);
-    places = mmap(NULL, text_length * 8, PROT_READ | PROT_WRITE, MAP_PRIVATE | MAP_ANONYMOUS | MAP_NORESERVE, -1, 0);
-    if (places == MAP_FAILED) text_length = 0; // then all are others
+    find_place((char *)lines_start + 1);
+    Module *m = atomic_load(&modules);
+    if (!m) return;
+    text_low = m->low;
+    text_length = m->length;
+    places = m->places;
     atomic_store(&quick_length, text_length);
 }
 

@@ -5,34 +5,34 @@
 // or are held at a barrier or fork, are unlocked and locked again, with no access in between (`locks_may_move`: at each access the same set is
 // held). Of more than 8 the first 8 are logged, and that is told.
 //
-// Mutexes are numbered as they are first seen, anew in each region of the root. One that was destroyed has a new number when it is seen again.
+// A mutex's number is its slot in a table by address, which is emptied after each region of the root. One that was destroyed has a new number when it
+// is seen again.
 //
 // May assume: a lane acquires and releases in its own thread; within a reduction's section clang holds one lock, the same for all reductions.
 #include "recorder.h"
 #include <omp-tools.h>
 
-enum { SLOTS = 1 << 17, REDUCTION = 0 };
+enum { REDUCTION = 0, GONE = 1, MOST = 61440 }; // a number; what a slot has of a mutex that was destroyed; how many slots are used at most
 
-static struct {
-    _Atomic uint64_t id;
-    atomic_uint number; // 0: forgotten
-} slots[SLOTS];
-static unsigned numbers = 1, used; // with the gate held
-static uint32_t slot_used[SLOTS / 2];
+static _Atomic uint64_t slots[MUTEXES]; // changed with the gate held
+static unsigned used;
 
 // ---- Sets, and what the log has of them ----
+
+static bool is_held(const Task *t, const Set *set, unsigned n)
+{
+    unsigned k = 0;
+    while (set->count == n && k < n && set->mutex[k] == t->hold[k].mutex) k++;
+    return set->count == n && k == n;
+}
 
 // Finds the number of the interval under the mutexes that are held.
 void choose_epoch(Task *t)
 {
-    unsigned n = t->held < HELD ? t->held : HELD, sets = t->sets < SETS ? t->sets : SETS;
-    Set *set = NULL;
-    for (unsigned i = 0; i < sets && !set; i++) {
-        unsigned k = 0;
-        while (k < n && t->set[i].mutex[k] == t->hold[k].mutex) k++;
-        if (t->set[i].count == n && k == n) set = &t->set[i];
-    }
-    if (!set) {
+    unsigned n = t->held < HELD ? t->held : HELD;
+    Set *set = t->set, *end = set + (t->sets < SETS ? t->sets : SETS);
+    while (set < end && !is_held(t, set, n)) set++;
+    if (set == end) {
         set = &t->set[t->sets++ % SETS];
         set->count = n;
         for (unsigned k = 0; k < n; k++) set->mutex[k] = t->hold[k].mutex;
@@ -64,37 +64,36 @@ void log_locks(Task *t)
 
 // ---- Numbers ----
 
-// The slot of an id, or the empty one where it would stand.
+static bool is_in(unsigned slot, uint64_t id) { return atomic_load_explicit(&slots[slot], memory_order_relaxed) == id; }
+
+// The slot of an id, or the free one where it would stand.
 static unsigned slot_of(uint64_t id)
 {
-    unsigned i = hash(id) >> 47;
-    for (uint64_t there; (there = atomic_load_explicit(&slots[i].id, memory_order_acquire)) && there != id;) i = (i + 1) % SLOTS;
+    unsigned i = hash(id) >> 48;
+    while (i == REDUCTION || !(is_in(i, 0) || is_in(i, id))) i = (i + 1) % MUTEXES;
     return i;
 }
 
 // 0 if there is none left.
 static unsigned find_number(uint64_t id)
 {
-    unsigned i = slot_of(id), number = atomic_load_explicit(&slots[i].number, memory_order_relaxed);
-    if (number && slots[i].id == id) return number;
+    unsigned i = slot_of(id);
+    if (is_in(i, id)) return i;
     close_gate();
     i = slot_of(id);
-    number = slots[i].number;
-    if (!number && numbers < MUTEXES && (slots[i].id || used < SLOTS / 2)) {
-        number = numbers++;
-        if (!slots[i].id) slot_used[used++] = i;
-        atomic_store_explicit(&slots[i].number, number, memory_order_relaxed);
-        atomic_store_explicit(&slots[i].id, id, memory_order_release);
+    if (!is_in(i, id) && used < MOST) {
+        used++;
+        atomic_store(&slots[i], id);
     }
     open_gate();
-    return number;
+    return is_in(i, id) ? i : 0;
 }
 
 static void forget(uint64_t id)
 {
     close_gate();
     unsigned i = slot_of(id);
-    if (slots[i].id) atomic_store_explicit(&slots[i].number, 0, memory_order_relaxed);
+    if (is_in(i, id)) atomic_store(&slots[i], GONE);
     open_gate();
 }
 
@@ -102,12 +101,8 @@ static void forget(uint64_t id)
 void mutexes_forget(void)
 {
     close_gate();
-    while (used) {
-        used--;
-        atomic_store(&slots[slot_used[used]].id, 0);
-        atomic_store(&slots[slot_used[used]].number, 0);
-    }
-    numbers = 1;
+    for (unsigned i = 0; used && i < MUTEXES; i++) atomic_store_explicit(&slots[i], 0, memory_order_relaxed);
+    used = 0;
     open_gate();
 }
 
@@ -146,7 +141,7 @@ static void let_go(Task *t, unsigned number)
 static void acquired(uint64_t id, const void *ra)
 {
     Task *t = cur;
-    if (!t || is_foreign(t)) return;
+    if (!t) return;
     cur = NULL;
     unsigned number = find_number(id);
     if (number) hold(t, number, line_of(ra));
@@ -156,10 +151,8 @@ static void acquired(uint64_t id, const void *ra)
 
 static void released(uint64_t id)
 {
-    Task *t = cur;
-    if (!t || is_foreign(t)) return;
-    unsigned number = find_number(id);
-    if (number) let_go(t, number);
+    unsigned number = cur ? find_number(id) : 0;
+    if (number) let_go(cur, number);
 }
 
 // ---- What the runtime tells ----
@@ -170,13 +163,11 @@ static void on_lock_destroy(ompt_mutex_t kind, ompt_wait_id_t id, const void *ra
 
 static void on_reduction(ompt_sync_region_t kind, ompt_scope_endpoint_t end, ompt_data_t *parallel, ompt_data_t *data, const void *ra)
 {
-    Task *t = cur;
-    if (!t || is_foreign(t)) return;
-    if (end == ompt_scope_begin) hold(t, REDUCTION, line_of(ra));
-    else let_go(t, REDUCTION);
+    if (!cur) return;
+    if (end == ompt_scope_begin) hold(cur, REDUCTION, line_of(ra));
+    else let_go(cur, REDUCTION);
 }
 
-#define ASK(name) &&ask(ompt_callback_##name, (ompt_callback_t)on_##name) == ompt_set_always
 bool mutexes_start(void *set_callback)
 {
     ompt_set_callback_t ask = (ompt_set_callback_t)set_callback;
@@ -184,8 +175,6 @@ bool mutexes_start(void *set_callback)
 }
 
 // ---- Mutexes of pthreads ----
-
-#define RA __builtin_return_address(0)
 
 int __real_pthread_mutex_trylock(pthread_mutex_t *);
 int __real_pthread_mutex_timedlock(pthread_mutex_t *, const struct timespec *);

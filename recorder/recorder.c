@@ -4,24 +4,12 @@
 #include "recorder.h"
 #include <omp-tools.h>
 #include <omp.h>
-#include <stdarg.h>
-#include <stdio.h>
 
 pthread_mutex_t gate = PTHREAD_MUTEX_INITIALIZER;
 static bool found, started, child; // found: the runtime asked for the tool
 static atomic_bool over;
 static atomic_uint lost, told; // bits: whys for good, and all whys
 static pid_t process;
-
-void say(const char *format, ...)
-{
-    char text[4400];
-    va_list words;
-    va_start(words, format);
-    vsnprintf(text, sizeof text, format, words);
-    va_end(words);
-    fprintf(stderr, "swordrec: %s\n", text);
-}
 
 void tell_of(unsigned why) { atomic_fetch_or_explicit(&told, 1u << why, memory_order_relaxed); }
 
@@ -115,7 +103,7 @@ ompt_start_tool_result_t *ompt_start_tool(unsigned version, const char *runtime)
 // thread.
 static __attribute__((constructor(101))) void start(void)
 {
-    cur = NULL;
+    ours = true;
     omp_get_max_threads();
     if (!found) say("nothing is recorded: the OpenMP runtime started no tool");
 }
@@ -123,8 +111,7 @@ static __attribute__((constructor(101))) void start(void)
 // What skipped.h calls from a program or library in which swordcc found accesses that the compiler doesn't instrument.
 void swordrec_skips(void) { cannot(NULL, WHY_SKIPPED); }
 
-void __real__exit(int) __attribute__((noreturn));
-void __real__Exit(int) __attribute__((noreturn));
+__attribute__((noreturn)) void __real__exit(int);
 
 __attribute__((noreturn)) void __wrap__exit(int status)
 {
@@ -132,8 +119,4 @@ __attribute__((noreturn)) void __wrap__exit(int status)
     __real__exit(status);
 }
 
-__attribute__((noreturn)) void __wrap__Exit(int status)
-{
-    finish();
-    __real__Exit(status);
-}
+__attribute__((noreturn, alias("__wrap__exit"))) void __wrap__Exit(int status);

@@ -8,6 +8,7 @@
 #include <stdatomic.h>
 #include <stdbool.h>
 #include <stdint.h>
+#include <stdio.h>
 #include <stdlib.h>
 #include <string.h>
 #include <sys/mman.h>
@@ -16,7 +17,7 @@
 // Kinds of records, and limits of the format (docs/FORMATS.md).
 enum { READ = 1, WRITE = 2, LOCK = 3, UNLOCK = 4, BARRIER = 5, REGION = 6, END = 8, UPDATE = 9 };
 enum { RECORDS = 4194304, ROWS = 65536, SEGMENTS = 65536, LANES = 64, DEPTH = 4, HELD = 8, MUTEXES = 65536 };
-enum { RECORD = 24, HEADER = 8, BLOCK = 2730 * RECORD }; // bytes of a record, of a log's header and of a task's block
+enum { HEADER = 8, BLOCK = 2730 }; // bytes of a log's header, and records of a task's block
 
 // What is told at the end: first why a folder has no index, and last what leaves it one, although pairs may be false.
 #define WHYS(WHY) \
@@ -27,13 +28,12 @@ enum { RECORD = 24, HEADER = 8, BLOCK = 2730 * RECORD }; // bytes of a record, o
     WHY(DEEP, "regions nested more than 4 deep") \
     WHY(MANY_ROWS, "more than 65,536 tasks under one region of the root, between two of its barriers") \
     WHY(MANY_SEGMENTS, "more than 65,536 barrier intervals with an access, between two barriers of the outermost team") \
-    WHY(LONG, "a lane has too many different accesses between two barriers of the outermost team: a log holds 4,194,304 records." \
-              " Put a barrier into the loop, or give it fewer elements or more lanes") \
-    WHY(FULL, "a log is full of locks, barriers and regions") \
+    WHY(LONG, "a lane has too many different accesses, or locks of mutexes, barriers and regions, between two barriers of the outermost team: a log" \
+              " holds 4,194,304 records. Put a barrier into the loop, or give it fewer elements or more lanes") \
     WHY(FILES, "a file couldn't be written") \
-    WHY(THERE, "a folder that is there already is left alone") \
-    WHY(MANY_MUTEXES, "more than 8 mutexes held at once, or more than 65,535 in a region of the root") \
+    WHY(MANY_MUTEXES, "more than 8 mutexes held at once, or more than 61,440 in a region of the root") \
     WHY(THREADS, "a thread that isn't OpenMP's made accesses while a region ran, or forked one") \
+    WHY(HANDLER, "a signal's handler ran in a lane: its accesses aren't recorded") \
     WHY(WITHIN, "the program ended within a region") \
     WHY(STACKS, "too many lanes of nested teams, or stacks of more than 64 MB") \
     WHY(FREED, "too much memory was freed between two barriers of the outermost team (SWORDREC_HOLD)") \
@@ -46,6 +46,11 @@ enum { RECORD = 24, HEADER = 8, BLOCK = 2730 * RECORD }; // bytes of a record, o
 #define ONE_WHY(name, text) WHY_##name,
 enum { WHYS(ONE_WHY) WHYS_COUNT };
 #undef ONE_WHY
+
+// A record as a log has it, high byte first.
+typedef struct {
+    uint64_t head, address, value;
+} Record;
 
 typedef struct Part Part;
 typedef struct Run Run;
@@ -83,27 +88,25 @@ typedef struct {
     uint16_t mutex[HELD];
 } Set;
 
-// A mutex that is held, and how often its thread acquired it.
+// A mutex that is held, and how often its lane acquired it.
 typedef struct {
     uint16_t mutex, times;
     uint32_t line;
 } Hold;
 
 enum { SETS = 8, HOLDS = 64 };
-enum { NEW_SEGMENT = 1, NEW_LOCKS = 2, FOREIGN = 4 };
+enum { NEW_SEGMENT = 1, NEW_LOCKS = 2 };
 
 // One lane of a team while it runs. Only its thread touches it.
 struct Task {
-    unsigned char *at, *end; // where the next record goes, and where no access goes any more
-    unsigned char *since;    // the first record after the last one that isn't an access
-    Seen *seen;              // its thread's
-    unsigned pending;        // what must be done before an access is logged
-    uint64_t low, high;      // the number of the interval and set, as the table has it: lower and upper bits
-    uint32_t spread;         // and where in the table
-    unsigned char *block;
-    uint32_t written; // records that are in the file
+    Record *at;         // where the next one goes
+    Record *since;      // the first one after the last one that isn't an access
+    Seen *seen;         // its thread's
+    unsigned pending;   // what must be done before an access is logged
+    uint64_t low, high; // the number of the interval and set, as the table has it: lower and upper bits
+    uint32_t spread;    // and where in the table
+    uint32_t written;   // records that left the block
     uint32_t barriers, barrier_line;
-    uint64_t lost;
     Team *team;
     Part *part;
     Node *node;
@@ -114,26 +117,37 @@ struct Task {
     uint16_t step_lane[DEPTH];
     Set set[SETS];
     Hold in_log[HELD], hold[HOLDS];
+    struct {
+        char header[HEADER];
+        Record block[BLOCK];
+    } log;
 };
 
-// A thread that ran a lane. Only it touches what is here, but for `held` while no region runs.
+// Memory that is held back until nobody uses it any more.
+typedef struct {
+    void *at;
+    size_t mapped; // 0: a block of malloc
+    size_t bytes;  // that it still has
+} Held;
+
+// A thread that ran a lane. Only it touches what is here, but for what is atomic, and `held` while no region runs.
 typedef struct Thread {
     struct Thread *next;
     Seen *seen;
     uint64_t epochs;
     Task *spare;
-    struct Stack *stack; // NULL until it has had a name
-    struct Chunk *held;
+    Held *held;
+    size_t held_count, held_room;
+    atomic_uint name; // of its stack; 0 unless it is a lane from 1 on of a nested team
+    _Atomic uint64_t low, high;
 } Thread;
 
 #pragma GCC visibility push(hidden)
 
 extern __thread Task *cur;      // whose accesses are logged now; NULL: nobody's
+extern __thread bool ours;      // the main thread, or one that was a lane: no thread of the program's own
 extern __thread Thread *me;     // NULL before its first lane
 extern atomic_uint regions_now; // teams of the root that run
-
-static inline bool is_foreign(const Task *t) { return t && t->pending & FOREIGN; }
-static inline Task *lane_now(void) { return is_foreign(cur) ? NULL : cur; }
 
 #pragma GCC visibility pop
 
@@ -159,52 +173,47 @@ static inline void close_gate(void) { __real_pthread_mutex_lock(&gate); }
 static inline void open_gate(void) { __real_pthread_mutex_unlock(&gate); }
 
 // recorder.c
+#define say(format, ...) fprintf(stderr, "swordrec: " format "\n", ##__VA_ARGS__)
 void tell_of(unsigned why);
 void cannot(Task *t, unsigned why); // for the task's folder, or from now on if there is no task
 bool lost_for_good(void);
-void say(const char *format, ...) __attribute__((format(printf, 1, 2)));
 uint64_t setting(const char *name, uint64_t least, uint64_t most, uint64_t otherwise);
 void *grown(void *items, size_t *room, size_t count, size_t size); // with room for one more item; NULL: no memory, and they stay
 
+// Of a call of the program, and where a tool asks the runtime for one more callback.
+#define RA __builtin_return_address(0)
+#define ASK(name) &&ask(ompt_callback_##name, (ompt_callback_t)on_##name) == ompt_set_always
+
 // accesses.c
 static inline uint64_t hash(uint64_t key) { return key * 0x9e3779b97f4a7c15ull; }
-static inline void spell(unsigned char *to, uint64_t head, uint64_t address, uint64_t value)
+static inline Record record(uint64_t head, uint64_t address, uint64_t value)
 {
-    uint64_t *word = (uint64_t *)to;
-    word[0] = __builtin_bswap64(head);
-    word[1] = __builtin_bswap64(address);
-    word[2] = __builtin_bswap64(value);
+    return (Record){__builtin_bswap64(head), __builtin_bswap64(address), __builtin_bswap64(value)};
 }
 
 // lines.c: a place is site << 32 | line, as a record has it
-extern uint64_t text_low, text_length; // of the program's own code
-extern atomic_ullong quick_length;     // the same, or 0 while stacks have names
-extern _Atomic uint64_t *places;       // by address in it; 0: not asked yet
+extern uint64_t text_low, text_length; // the return addresses of the program's own code
+extern _Atomic uint64_t *places;       // by return address from text_low on; 0: not asked yet
+extern atomic_ullong quick_length;     // how many of them may be used; 0 while stacks have names
 void lines_start(void);
 void lines_tell(void);
 // Of code whose line isn't known: line 1. No access may have it, but a mutex, a fork or a barrier, whose line plays no part in races: now and then the
 // runtime gives a place within itself.
 enum { UNKNOWN = 1 };
-uint64_t find_place(uint64_t return_address);
-static inline uint64_t place_of(const void *return_address)
-{
-    uint64_t offset = (uint64_t)return_address - text_low;
-    uint64_t place = offset < text_length ? atomic_load_explicit(&places[offset], memory_order_relaxed) : 0;
-    return place ? place : find_place((uint64_t)return_address);
-}
-static inline uint32_t line_of(const void *return_address) { return return_address ? (uint32_t)place_of(return_address) : 1; }
+uint64_t find_place(const void *return_address);
+static inline uint32_t line_of(const void *return_address) { return return_address ? (uint32_t)find_place(return_address) : 1; }
 
 // folder.c: logs, and what has them
 bool folder_start(void);
 void folder_end(bool within);
 void fail_folder(const Part *part, unsigned why);
-Part *part_of(Team *team, unsigned span);       // the team's first part; NULL: it can't be recorded, and that was told
-Part *part_after(Part *part, Team *team);       // the part that follows a cut
-bool part_is_big(const Task *t);                // whether it is time to cut
+Part *part_at(Part **place, Team *team, unsigned span); // added where there is none; NULL: it can't be recorded, and that was told
+bool part_is_big(const Task *t);                        // whether it is time to cut
 void begin_log(Task *t, Part *part);
 void end_log(Task *t);
-void put_mark(Task *t, unsigned kind, uint32_t line, uint64_t address, uint64_t value);
-bool make_room(Task *t);                        // for an access; false: there is none
+static inline bool is_full(const Task *t) { return t->at == t->log.block + BLOCK; }
+void flush(Task *t);                            // writes what is in the block, and empties it
+void put_mark(Task *t, unsigned kind, uint32_t line, uint64_t address, uint64_t value); // what isn't an access
 void open_segment(Task *t);
 
 // mutexes.c
@@ -227,7 +236,6 @@ struct Team {
     atomic_uint want[2]; // the barriers at which the team is cut
 };
 bool teams_start(void *look_up);
-void free_tasks(Task *t);
 // What ThreadSanitizer can't see where the recorder is compiled with it (recorder/sanitize), since the runtime isn't.
 #if __has_feature(thread_sanitizer)
 void __tsan_acquire(void *);
@@ -243,7 +251,6 @@ static inline void happens_after(Team *team) {}
 extern atomic_uint stack_names; // 0: no stack has a name
 void reuse_start(void);
 bool enter_thread(void);
-void leave_thread(void);
 void name_stack(void);
 void unname_stack(void);
 uint64_t named(uint64_t address);

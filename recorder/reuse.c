@@ -13,20 +13,11 @@
 #include "recorder.h"
 #include <malloc.h>
 
-enum { HELD_BLOCKS = 255, LARGE = 65536, NAME_BITS = 21, STACK_BITS = 26 };
-
-typedef struct Chunk {
-    struct Chunk *next;
-    unsigned count;
-    struct {
-        void *at;
-        size_t mapped; // 0: of malloc
-        size_t bytes;  // that it still has
-    } block[HELD_BLOCKS];
-} Chunk;
+enum { LARGE = 65536, NAME_BITS = 21, STACK_BITS = 26 };
 
 __thread Thread *me;
-static Thread *threads; // with the gate held
+atomic_uint stack_names;
+static _Atomic(Thread *) threads; // one that has ended stays here: the runtime's go on to its end
 static atomic_ullong held_bytes;
 static atomic_bool placed; // the program places mappings itself
 static uint64_t most_held;
@@ -35,53 +26,38 @@ void reuse_start(void) { most_held = setting("SWORDREC_HOLD", 0, 1ull << 40, 1ul
 
 // ---- Blocks ----
 
-static void release(Chunk **held)
+static void release(Thread *t)
 {
-    while (*held) {
-        Chunk *chunk = *held;
-        *held = chunk->next;
-        for (unsigned i = 0; i < chunk->count; i++) {
-            if (!chunk->block[i].mapped) {
-                atomic_fetch_sub_explicit(&held_bytes, chunk->block[i].bytes, memory_order_relaxed);
-                free(chunk->block[i].at);
-            } else if (!atomic_load(&placed)) {
-                munmap(chunk->block[i].at, chunk->block[i].mapped);
-            }
+    while (t->held_count) {
+        Held held = t->held[--t->held_count];
+        if (!held.mapped) {
+            atomic_fetch_sub_explicit(&held_bytes, held.bytes, memory_order_relaxed);
+            free(held.at);
+        } else if (!atomic_load(&placed)) {
+            munmap(held.at, held.mapped); // if it can't be, its addresses stay taken
         }
-        free(chunk);
     }
 }
 
 // At a barrier of the root's team, after it: all that used these blocks is before the barrier.
-void release_own(void)
-{
-    if (me) release(&me->held);
-}
+void release_own(void) { release(me); }
 
 // No lane of the root's region runs any more.
 void release_all(void)
 {
-    close_gate();
-    for (Thread *t = threads; t; t = t->next) release(&t->held);
+    for (Thread *t = atomic_load(&threads); t; t = t->next) release(t);
     atomic_store(&stack_names, 0);
     atomic_store(&quick_length, text_length);
-    open_gate();
 }
 
 static inline bool in_region(void) { return atomic_load_explicit(&regions_now, memory_order_relaxed) && me; }
 
 static bool hold_back(void *block, size_t mapped, size_t bytes)
 {
-    if (!me->held || me->held->count == HELD_BLOCKS) {
-        Chunk *chunk = malloc(sizeof *chunk);
-        if (!chunk) return false;
-        chunk->next = me->held;
-        chunk->count = 0;
-        me->held = chunk;
-    }
-    me->held->block[me->held->count].at = block;
-    me->held->block[me->held->count].mapped = mapped;
-    me->held->block[me->held->count++].bytes = bytes;
+    Held *held = grown(me->held, &me->held_room, me->held_count, sizeof *held);
+    if (!held) return false;
+    me->held = held;
+    me->held[me->held_count++] = (Held){block, mapped, bytes};
     return true;
 }
 
@@ -103,7 +79,7 @@ void __wrap_free(void *block)
             return;
         }
         atomic_fetch_sub_explicit(&held_bytes, size, memory_order_relaxed);
-        cannot(lane_now(), WHY_FREED);
+        cannot(cur, WHY_FREED);
     }
     free(block);
     errno = error;
@@ -144,7 +120,7 @@ int __wrap_munmap(void *at, size_t size)
         int how = MAP_PRIVATE | MAP_ANONYMOUS | MAP_FIXED | MAP_NORESERVE;
         if (mmap(at, size, PROT_NONE, how, -1, 0) != MAP_FAILED) {
             if (hold_back(at, size, 0)) return 0;
-            cannot(lane_now(), WHY_MEMORY);
+            cannot(cur, WHY_MEMORY);
         }
     }
     return munmap(at, size);
@@ -158,17 +134,6 @@ void *__wrap_mmap(void *at, size_t size, int protection, int flags, int file, of
 
 // ---- Threads and their stacks ----
 
-// A stack that has had a name. One of a thread that ended is another thread's later.
-typedef struct Stack {
-    struct Stack *next;
-    atomic_bool taken;
-    atomic_uint name; // 0 unless its thread is a lane from 1 on of a nested team
-    _Atomic uint64_t low, high;
-} Stack;
-
-atomic_uint stack_names;
-static _Atomic(Stack *) stacks;
-
 // Makes what a thread needs to run lanes.
 bool enter_thread(void)
 {
@@ -180,86 +145,52 @@ bool enter_thread(void)
         free(t);
         return false;
     }
-    close_gate();
-    t->next = threads;
-    threads = t;
-    open_gate();
+    t->next = atomic_load(&threads);
+    while (!atomic_compare_exchange_weak(&threads, &t->next, t)) {}
     me = t;
     return true;
 }
 
-// Finds this thread's stack and tells the others of it. False: it can't be named, and that was told.
-static bool enter_stack(void)
+// Finds this thread's stack. False: it can't be named, and that was told.
+static bool find_stack(void)
 {
     pthread_attr_t attributes;
     void *low = NULL;
     size_t size = 0;
+    if (atomic_load(&me->high)) return true;
     if (!pthread_getattr_np(pthread_self(), &attributes)) {
         if (pthread_attr_getstack(&attributes, &low, &size)) size = 0;
         pthread_attr_destroy(&attributes);
     }
-    Stack *stack = atomic_load(&stacks);
-    while (stack && atomic_exchange(&stack->taken, true)) stack = stack->next;
-    const bool new = !stack;
-    if (new) stack = calloc(1, sizeof *stack);
-    if (!stack || !size || size > 1ul << STACK_BITS) {
-        cannot(NULL, stack ? WHY_STACKS : WHY_MEMORY);
-        if (new) free(stack);
+    if (!size || size > 1ul << STACK_BITS) {
+        cannot(NULL, WHY_STACKS);
         return false;
     }
-    atomic_store(&stack->low, (uint64_t)low);
-    atomic_store(&stack->high, (uint64_t)low + size);
-    me->stack = stack;
-    if (!new) return true;
-    atomic_store(&stack->taken, true);
-    stack->next = atomic_load(&stacks);
-    while (!atomic_compare_exchange_weak(&stacks, &stack->next, stack)) {}
+    atomic_store(&me->low, (uint64_t)low);
+    atomic_store(&me->high, (uint64_t)low + size);
     return true;
 }
 
 // Gives this thread's stack a name of its own, for the lane that it is now.
 void name_stack(void)
 {
-    if (!me->stack && !enter_stack()) return;
+    if (!find_stack()) return;
     uint32_t name = atomic_fetch_add(&stack_names, 1) + 1;
     atomic_store(&quick_length, 0);
     if (name >= 1u << NAME_BITS) cannot(NULL, WHY_STACKS);
-    atomic_store_explicit(&me->stack->name, name, memory_order_relaxed);
+    atomic_store_explicit(&me->name, name, memory_order_relaxed);
 }
 
-void unname_stack(void)
-{
-    if (me->stack) atomic_store_explicit(&me->stack->name, 0, memory_order_relaxed);
-}
+void unname_stack(void) { atomic_store_explicit(&me->name, 0, memory_order_relaxed); }
 
 // The address under which the log has this one.
 uint64_t named(uint64_t address)
 {
-    for (Stack *stack = atomic_load_explicit(&stacks, memory_order_acquire); stack; stack = stack->next) {
-        uint64_t from = address - atomic_load_explicit(&stack->low, memory_order_relaxed);
-        uint32_t name = atomic_load_explicit(&stack->name, memory_order_relaxed);
-        if (name && address < atomic_load_explicit(&stack->high, memory_order_relaxed) && from < 1ul << STACK_BITS)
-            return (1ull << 47) + ((uint64_t)name << STACK_BITS | from);
+    for (Thread *t = atomic_load_explicit(&threads, memory_order_acquire); t; t = t->next) {
+        uint32_t name = atomic_load_explicit(&t->name, memory_order_relaxed);
+        uint64_t low = atomic_load_explicit(&t->low, memory_order_relaxed);
+        if (name && address >= low && address < atomic_load_explicit(&t->high, memory_order_relaxed))
+            return (1ull << 47) + ((uint64_t)name << STACK_BITS | (address - low));
     }
     return address;
-}
-
-// The thread ends: it runs no lane any more.
-void leave_thread(void)
-{
-    Thread *t = me;
-    if (!t) return;
-    me = NULL;
-    if (t->stack) atomic_store(&t->stack->taken, false);
-    close_gate();
-    Thread **at = &threads;
-    while (*at != t) at = &(*at)->next;
-    *at = t->next;
-    open_gate();
-    // Blocks that it freed in a region that still runs may be used again from now on.
-    if (t->held && atomic_load(&regions_now)) cannot(NULL, WHY_FREED);
-    release(&t->held);
-    free_tasks(t->spare);
-    munmap(t->seen, SEEN * sizeof(Seen));
-    free(t);
 }

@@ -17,8 +17,8 @@ static __thread Team *team_now; // the innermost that this thread forked
 static __thread Task *mine;     // the innermost lane that this thread is
 static pthread_t main_thread;
 
-// What the runtime keeps for an implicit task: its Task, or one of these.
-static char root, within_parent, unrecorded, ended;
+// What the runtime keeps for an implicit task: its Task, one of these, or NULL: it is a part of its parent's, or has ended.
+static char root, unrecorded;
 
 static void *get(const ompt_data_t *data) { return data ? __atomic_load_n(&data->ptr, __ATOMIC_RELAXED) : NULL; }
 static void set(ompt_data_t *data, void *to) { __atomic_store_n(&data->ptr, to, __ATOMIC_RELAXED); }
@@ -39,33 +39,16 @@ static void end_segment(Task *t, unsigned kind, uint32_t line, uint64_t value)
     put_mark(t, kind, line, 0, value);
 }
 
-enum { BEFORE = (sizeof(Task) + 63) / 64 * 64 + HEADER };
-
 static Task *new_task(void)
 {
     if (!enter_thread()) return NULL;
     Task *t = me->spare;
-    if (t) {
-        me->spare = t->next_free;
-    } else {
-        t = mmap(NULL, BEFORE + BLOCK, PROT_READ | PROT_WRITE, MAP_PRIVATE | MAP_ANONYMOUS, -1, 0);
-        if (t == MAP_FAILED) return NULL;
-        t->block = (unsigned char *)t + BEFORE;
-    }
+    if (t) me->spare = t->next_free;
+    else if (!(t = malloc(sizeof *t))) return NULL;
     t->seen = me->seen;
     t->held = t->logged = 0;
     t->barriers = 0;
-    t->lost = 0;
     return t;
-}
-
-void free_tasks(Task *t)
-{
-    while (t) {
-        Task *next = t->next_free;
-        munmap(t, BEFORE + BLOCK);
-        t = next;
-    }
 }
 
 // The lane's log has ended.
@@ -77,16 +60,9 @@ static void leave_lane(Task *t)
     me->spare = t;
 }
 
-static void close_lane(Task *t)
-{
-    end_segment(t, END, t->team->line, 0);
-    end_log(t);
-    leave_lane(t);
-}
-
 static void on_parallel_begin(ompt_data_t *data, const ompt_frame_t *frame, ompt_data_t *parallel, unsigned lanes, int flags, const void *ra)
 {
-    Task *keep = cur, *above = is_foreign(keep) ? NULL : keep;
+    Task *above = cur;
     cur = NULL;
     Team *team = calloc(1, sizeof *team);
     if (!team) {
@@ -102,7 +78,7 @@ static void on_parallel_begin(ompt_data_t *data, const ompt_frame_t *frame, ompt
         cannot(above, WHY_LEAGUE);
         team->dead = true;
     } else if (!above && !team->dead && lanes > 1) {
-        if (is_foreign(keep) || !pthread_equal(main_thread, pthread_self())) {
+        if (!pthread_equal(main_thread, pthread_self())) {
             cannot(NULL, WHY_THREADS);
             team->dead = true;
         } else {
@@ -113,7 +89,7 @@ static void on_parallel_begin(ompt_data_t *data, const ompt_frame_t *frame, ompt
     parallel->ptr = team;
     team_now = team;
     happens_before(team);
-    cur = keep;
+    cur = above;
 }
 
 static void begin_lane(Team *team, ompt_data_t *data, unsigned span, unsigned lane)
@@ -124,7 +100,7 @@ static void begin_lane(Team *team, ompt_data_t *data, unsigned span, unsigned la
         cannot(above, span > LANES ? WHY_WIDE : WHY_DEEP);
         return;
     }
-    Part *part = part_of(team, span);
+    Part *part = part_at(&team->first, team, span);
     Task *t = part ? new_task() : NULL;
     if (!t) {
         if (part) cannot(NULL, WHY_MEMORY);
@@ -153,26 +129,20 @@ static void begin_lane(Team *team, ompt_data_t *data, unsigned span, unsigned la
 
 static void on_implicit_task(ompt_scope_endpoint_t end, ompt_data_t *parallel, ompt_data_t *data, unsigned span, unsigned lane, int flags)
 {
+    if (end == ompt_scope_end) return; // a lane has ended at its join
     if (flags & ompt_task_initial) {
-        Team *league = parallel ? parallel->ptr : NULL;
-        if (end == ompt_scope_begin) set(data, league ? &unrecorded : &root);
-        return;
-    }
-    if (end == ompt_scope_end) {
-        Task *t = task_in(data);
-        if (!t) return;
-        cur = NULL;
-        set(data, &ended);
-        close_lane(t);
+        const bool is_league = parallel && parallel->ptr;
+        set(data, is_league ? &unrecorded : &root);
         return;
     }
     Team *team = parallel->ptr;
     happens_after(team);
     if (span == 1 && !team->dead) {
-        set(data, &within_parent);
+        set(data, NULL);
         return;
     }
-    if (!is_foreign(cur)) cur = NULL;
+    ours = true;
+    cur = NULL;
     set(data, &unrecorded);
     if (!team->dead) begin_lane(team, data, span, lane);
 }
@@ -182,14 +152,14 @@ static void on_parallel_end(ompt_data_t *parallel, ompt_data_t *data, int flags,
     Team *team = team_now;
     if (!team) return;
     team_now = team->outer;
-    if (!is_foreign(cur)) cur = NULL;
+    cur = NULL;
     happens_after(team);
     if (team->counted) {
         release_all();
         mutexes_forget();
         atomic_fetch_sub(&regions_now, 1);
     }
-    if (!is_foreign(cur)) cur = team->above;
+    cur = team->above;
     free(team);
 }
 
@@ -202,7 +172,7 @@ static bool pass(Task *t, uint32_t line)
         begin_interval(t);
         return true;
     }
-    Part *next = part_after(t->part, team);
+    Part *next = part_at(&t->part->next, team, t->part->span);
     end_segment(t, END, line, 0);
     end_log(t);
     if (!next) return false;
@@ -219,10 +189,11 @@ static void on_sync_region(ompt_sync_region_t kind, ompt_scope_endpoint_t end, o
     if (end == ompt_scope_begin) {
         const bool unnamed = kind == ompt_sync_region_barrier_implicit && (!ra || ra == t->team->return_address);
         if (unnamed || kind == ompt_sync_region_barrier_implicit_parallel) {
-            Team *team = t->team;
-            set(data, &ended);
-            close_lane(t);
-            happens_before(team);
+            set(data, NULL);
+            end_segment(t, END, t->team->line, 0);
+            end_log(t);
+            happens_before(t->team);
+            leave_lane(t);
             return;
         }
         t->barriers++;
@@ -243,7 +214,7 @@ static void on_sync_region(ompt_sync_region_t kind, ompt_scope_endpoint_t end, o
 
 static void on_task_create(ompt_data_t *task, const ompt_frame_t *frame, ompt_data_t *made, int flags, int dependences, const void *ra)
 {
-    if (flags & ompt_task_explicit && get(task) != &root) cannot(is_foreign(cur) ? NULL : cur, WHY_TASKS);
+    if (flags & ompt_task_explicit && get(task) != &root) cannot(cur, WHY_TASKS);
 }
 
 static void on_cancel(ompt_data_t *data, int flags, const void *ra) { cannot(task_in(data), WHY_CANCELLED); }
@@ -254,13 +225,10 @@ static void on_dependences(ompt_data_t *data, const ompt_dependence_t *dependenc
         if (dependences[i].dependence_type == ompt_dependence_type_sink) tell_of(WHY_DOACROSS);
 }
 
-static void on_thread_end(ompt_data_t *data) { leave_thread(); }
-
-#define ASK(name) &&ask(ompt_callback_##name, (ompt_callback_t)on_##name) == ompt_set_always
 bool teams_start(void *look_up)
 {
     ompt_set_callback_t ask = (ompt_set_callback_t)((ompt_function_lookup_t)look_up)("ompt_set_callback");
     main_thread = pthread_self();
-    return ask ASK(parallel_begin) ASK(parallel_end) ASK(implicit_task) ASK(sync_region) ASK(task_create) ASK(cancel) ASK(dependences) ASK(thread_end) &&
+    return ask ASK(parallel_begin) ASK(parallel_end) ASK(implicit_task) ASK(sync_region) ASK(task_create) ASK(cancel) ASK(dependences) &&
            mutexes_start((void *)ask);
 }

@@ -1,5 +1,5 @@
 // races: 18-18
-// recorder: refused, a log is full of locks
+// recorder: refused, or locks of mutexes, barriers and regions
 // Each lane takes one of two locks of its own for each element, more often than a log has room; the last one is written by both.
 #include <omp.h>
 #include <stdio.h>

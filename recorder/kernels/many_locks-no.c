@@ -1,5 +1,5 @@
 // races: none
-// recorder: refused, more than 65,535
+// recorder: refused, more than 61,440
 // Each element has a lock, and there are 70,000.
 #include <omp.h>
 #include <stdio.h>
