@@ -1,9 +1,10 @@
 mod Doing
 mod GoAlike
 mod Moving
+mod Once
 mod OneAnswer
 mod OneVerdict
-mod Once
+mod Opening
 mod Rooms
 mod Root
 mod TooMany
