@@ -20,6 +20,7 @@ use Rattle.task_place.proofs.Operands.{bounded_left, left-within, no_operation, 
 use Rattle.lane_runner.specs.declared.stop.Halt.TheVariants as halt
 use Rattle.lane_runner.specs.declared.stop.Stop.TheVariants.{DivZero}
 use Rattle.lane_runner.specs.Going.{Goes, Made, site, lane_answer}
+use Rattle.lane_runner.proofs.Bodies.{log_later}
 use Rattle.lane_runner.proofs.Values.{made_still, can_follow, load_stops, load_goes, neg_stops, neg_goes, left_stops, below_stops, below_goes, number_made, operand_goes, top_stops, top_goes}
 use Rattle.lane_runner.proofs.value.+valuing.Goals as goal
 
@@ -241,3 +242,50 @@ compound-top-requires g t c κs given =
     let none = size_none (term_of c.in-Binary-2.left.value) in
     let falls = c.decreases in
     (omega (arith, falls, size, above, none), search (rules, given))
+
+-- ---- the log, and what the parts are within
+
+pub compound-returns-in_ok-at-in-Load-clause-log : goal.compound-returns-in_ok-at-in-Load-clause-log
+compound-returns-in_ok-at-in-Load-clause-log g t c = log_later _ _ _ c.valued.ensures.log c.load.ensures.log
+
+pub compound-returns-in_ok-lowest-in-Binary-clause-log : goal.compound-returns-in_ok-lowest-in-Binary-clause-log
+compound-returns-in_ok-lowest-in-Binary-clause-log g t c = log_later _ _ _ c.valued-in-Binary.ensures.log c.climb.ensures.log
+
+pub compound-returns-in_ok-first-in-Binary-2-clause-log : goal.compound-returns-in_ok-first-in-Binary-2-clause-log
+compound-returns-in_ok-first-in-Binary-2-clause-log g t c = log_later _ _ _ c.valued-in-Binary-2.ensures.log c.top.ensures.log
+
+pub climb-returns-clause-log : goal.climb-returns-clause-log
+climb-returns-clause-log g t c = log_later _ _ _ c.climb.ensures.log c.climb-2.ensures.log
+
+pub climb-returns-then-levels-eq1-clause-goes : goal.climb-returns-then-levels-eq1-clause-goes
+climb-returns-then-levels-eq1-clause-goes g t c =
+    subst (λ (z : ℤ). Goes c.args.world.now (value (site c.args.world.now) (with_left (term_of c.args.expr.now) c.args.levels z)) c.args.locals.now.slots.items c.args.locals.now.slots.items c.args.track.now c.top.new.track (lane_answer c.top.result)) (to_z-of_z w64 c.args.first c.ranges.first)
+    (subst (λ (n : ℕ). Goes c.args.world.now (value (site c.args.world.now) (with_left (term_of c.args.expr.now) n (to_z w64 (of_z w64 c.args.first)))) c.args.locals.now.slots.items c.args.locals.now.slots.items c.args.track.now c.top.new.track (lane_answer c.top.result)) (sym c.if-levels-eq1.true) c.top.ensures.goes)
+
+pub compound-valued-requires-clause-bounded : goal.compound-valued-requires-clause-bounded
+compound-valued-requires-clause-bounded g t c κs given =
+    subst (λ (e : Expr). IsBoundedTerm (term_of e)) (sym c.deref.ensures) (subst (λ (e : Expr). IsBoundedTerm (term_of e)) c.in-Load.is c.requires.bounded).1
+
+pub compound-load-requires-clause-bounded : goal.compound-load-requires-clause-bounded
+compound-load-requires-clause-bounded g t c κs given = (subst (λ (e : Expr). IsBoundedTerm (term_of e)) c.in-Load.is c.requires.bounded).0
+
+pub compound-valued-requires-in-Neg-clause-bounded : goal.compound-valued-requires-in-Neg-clause-bounded
+compound-valued-requires-in-Neg-clause-bounded g t c κs given =
+    subst (λ (e : Expr). IsBoundedTerm (term_of e)) (sym c.deref-in-Neg.ensures) (subst (λ (e : Expr). IsBoundedTerm (term_of e)) c.in-Neg.is c.requires.bounded)
+
+pub compound-valued-requires-in-Binary-2-clause-bounded : goal.compound-valued-requires-in-Binary-2-clause-bounded
+compound-valued-requires-in-Binary-2-clause-bounded g t c κs given =
+    subst (λ (e : Expr). IsBoundedTerm (term_of e)) (sym c.deref-in-Binary-2.ensures) (subst (λ (e : Expr). IsBoundedTerm (term_of e)) c.in-Binary-2.is c.requires.bounded).1
+
+pub top-valued-requires-clause-bounded : goal.top-valued-requires-clause-bounded
+top-valued-requires-clause-bounded g t c κs given =
+    subst (λ (e : Expr). IsBoundedTerm (term_of e)) (sym c.deref.ensures) (subst (λ (e : Expr). IsBoundedTerm (term_of e)) c.in-Binary.is c.requires.bounded).2
+
+pub valued-returns-in-Load-clause-goes : goal.valued-returns-in-Load-clause-goes
+valued-returns-in-Load-clause-goes g t c = c.compound.ensures.goes
+
+pub valued-returns-in-Neg-clause-goes : goal.valued-returns-in-Neg-clause-goes
+valued-returns-in-Neg-clause-goes g t c = c.compound-in-Neg.ensures.goes
+
+pub valued-returns-in-Binary-clause-goes : goal.valued-returns-in-Binary-clause-goes
+valued-returns-in-Binary-clause-goes g t c = c.compound-in-Binary.ensures.goes
