@@ -26,8 +26,8 @@ enum { HEADER = 8, BLOCK = 2730 }; // bytes of a log's header, and records of a 
     WHY(CANCELLED, "a construct was cancelled: its lanes don't pass the same barriers") \
     WHY(WIDE, "a region of more than 64 lanes") \
     WHY(DEEP, "regions nested more than 4 deep") \
-    WHY(MANY_ROWS, "more than 65,536 tasks under one region of the root, between two of its barriers") \
-    WHY(MANY_SEGMENTS, "more than 65,536 barrier intervals with an access, between two barriers of the outermost team") \
+    WHY(MANY_ROWS, "more than 65,536 tasks in a folder, too many of them between two barriers of the outermost team") \
+    WHY(MANY_SEGMENTS, "more than 65,536 barrier intervals with an access in a folder, too many of them between two barriers of the outermost team") \
     WHY(LONG, "a lane has too many different accesses, or locks of mutexes, barriers and regions, between two barriers of the outermost team: a log" \
               " holds 4,194,304 records. Put a barrier into the loop, or give it fewer elements or more lanes") \
     WHY(FILES, "a file couldn't be written") \
