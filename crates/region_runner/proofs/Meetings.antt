@@ -12,7 +12,7 @@ use Rattle.team_live.specs.Phases.{After, Begins, EachDid, Ends, Ran}
 use Rattle.region_runner.specs.Hands.{IsLaneHand}
 use Rattle.region_runner.specs.Meeting.{MeetsSo, PartsHands}
 use Rattle.region_runner.specs.Crew.{CrewValue}
-use Rattle.region_runner.specs.Plan.{CanBegin, Did, IsParted, MayDo, PlanValue, StandsAt, EndsEarly, TeamValue, of_lane, of_lanes, of_step, team_of_plan}
+use Rattle.region_runner.specs.Plan.{CanBegin, Did, IsParted, MayDo, PlanValue, StandsAt, LeavesOff, TeamValue, of_lane, of_lanes, of_step, team_of_plan}
 use Rattle.region_runner.specs.Stands.{TeamRan}
 use Rattle.region_runner.proofs.Plans.{all_home, goes_on, may_do, parted_belongs, stood_belongs, stops_at}
 
@@ -45,7 +45,7 @@ module _ (t : TeamValue) (can : CanBegin t) (n : ℕ) (span : n ≡ t.plan.crew.
       → ((hand : MutBor (HandValue View)) (lanes : MutBor (Vec LaneValue)) → Belongs hand.now t.plan.ground.words.table
       → ((k : ℕ) (d : LaneValue) → k < length lanes.now.items → IsLaneHand t.plan.ground.words.table hand.now.view.name (slice_index_or lanes.now.items k d).hand) → accepts hand lanes)
       → ((hand after : MutBor (HandValue View)) (lanes lanes' : MutBor (Vec LaneValue)) (goes : Bool) → gives hand lanes goes after lanes' → MeetsSo goes hand.now after.now lanes.now.items lanes'.now.items)
-      → Ends accepts gives n (length t.plan.phases) (of_lanes seen (StandsAt t)) (of_lanes seen (IsParted t)) (of_lanes seen (EndsEarly t)) (of_step seen (Did t.plan))
+      → Ends accepts gives n (length t.plan.phases) (of_lanes seen (StandsAt t)) (of_lanes seen (IsParted t)) (of_lanes seen (LeavesOff t)) (of_step seen (Did t.plan))
   team_ends accepted given = record {
     accepted = λ number hand before lanes within count parted did.
         let were = bare (IsParted t) number hand.now before parted in
@@ -56,11 +56,11 @@ module _ (t : TeamValue) (can : CanBegin t) (n : ℕ) (span : n ≡ t.plan.crew.
   }
     where
       by : (number : ℕ) (goes : Bool) (hand after : HandValue View) (before lanes lanes' : List LaneValue) → number < length t.plan.phases → IsParted t number hand before → EachDid (Did t.plan) number before lanes → MeetsSo goes hand after lanes lanes'
-          → After (of_lanes seen (StandsAt t)) (of_lanes seen (EndsEarly t)) number after lanes' goes
+          → After (of_lanes seen (StandsAt t)) (of_lanes seen (LeavesOff t)) number after lanes' goes
       by number true hand after before lanes lanes' within parted did meets =
           veiled (StandsAt t) (number + 1) after lanes' (goes_on t can number within hand before parted lanes did after lanes' meets.joins (meets.all refl))
       by number false hand after before lanes lanes' within parted did meets =
-          veiled (EndsEarly t) number after lanes' (stops_at t can number within hand before parted lanes did after lanes' meets.joins (meets.some refl))
+          veiled (LeavesOff t) number after lanes' (stops_at t can number within hand before parted lanes did after lanes' meets.joins (meets.some refl))
 
 -- a team begins with the hand that was taken from its place
 pub begun : (plan : PlanValue) (hand own : HandValue View) (lanes : List LaneValue) → own ≡ hand → CanBegin (team_of_plan plan hand lanes) → CanBegin (team_of_plan plan own (map seen lanes))
@@ -74,7 +74,7 @@ ran_bare crew items line hand own new before after same ran =
     (subst (λ (ms : List LaneValue). TeamRan crew items line own new (map seen before) ms) (map-id after) ran))
 
 -- what a team did, whether it did all its phases or stopped
-pub ran_so : {M : Type 0} (see : M → LaneValue) (t : TeamValue) (hand : HandValue View) (lanes : List M) (whole : Bool) → Ran (of_lanes see (StandsAt t)) (of_lanes see (EndsEarly t)) (length t.plan.phases) hand lanes whole
+pub ran_so : {M : Type 0} (see : M → LaneValue) (t : TeamValue) (hand : HandValue View) (lanes : List M) (whole : Bool) → Ran (of_lanes see (StandsAt t)) (of_lanes see (LeavesOff t)) (length t.plan.phases) hand lanes whole
     → TeamRan t.plan.crew t.plan.phases t.plan.line t.hand hand t.lanes (map see lanes)
 ran_so see t hand lanes true r = r.ran refl
 ran_so see t hand lanes false r = r.is

@@ -18,7 +18,7 @@ use Rattle.region_runner.specs.Ground.{IsOurLane, IsOurPhase}
 use Rattle.region_runner.specs.Hands.{IsLaneHand, joined_with, lane_hand}
 use Rattle.region_runner.specs.LastPhase.{IsLast}
 use Rattle.region_runner.specs.Meeting.{JoinsHands}
-use Rattle.region_runner.specs.Plan.{CanBegin, Did, IsParted, IsPlan, MayDo, PlanValue, StandsAt, EndsEarly, TeamValue, end_at, items_at}
+use Rattle.region_runner.specs.Plan.{CanBegin, Did, IsParted, IsPlan, MayDo, PlanValue, StandsAt, LeavesOff, TeamValue, end_at, items_at}
 use Rattle.region_runner.specs.Stands.{AllGo, HasPassed, RanPhase, TeamRan}
 use Rattle.region_runner.proofs.PhaseHands.{can_go_on, comes_home, parted_name}
 use Rattle.region_runner.proofs.TeamLoop.{few_first, may_next, one_bar, own_next, passed_none, runs_all, stops_early}
@@ -190,9 +190,9 @@ module _ (t : TeamValue) (can : CanBegin t) where
               ran = λ last. absurd (eqb-false (number + 1) (length t.plan.phases) at last);
             }
 
-          pub stops_at : (AllGo after → ⊥) → EndsEarly t number now after
+          pub stops_at : (AllGo after → ⊥) → LeavesOff t number now after
           stops_at some = by (number + 1 == length t.plan.phases) refl where
-            by : (is_last : Bool) → (number + 1 == length t.plan.phases) ≡ is_last → EndsEarly t number now after
+            by : (is_last : Bool) → (number + 1 == length t.plan.phases) ≡ is_last → LeavesOff t number now after
             by true at = whole at
             by false at =
                 stops_early t.plan.crew t.plan.phases (take number t.plan.phases ++ items_at t.plan number ∷ []) (drop (number + 1) t.plan.phases) t.plan.line t.hand now t.lanes after (steps_by false at).phases

@@ -87,8 +87,8 @@ pub record IsParted (t : TeamValue) (number : ℕ) (hand : HandValue View) (lane
   pub parts : PartsHands t.plan.crew.span home hand prev lanes
 
 -- and after a phase in which a lane stopped
-abbrev pub EndsEarly : TeamValue → ℕ → HandValue View → List LaneValue → Type 0
-EndsEarly t number hand lanes = TeamRan t.plan.crew t.plan.phases t.plan.line t.hand hand t.lanes lanes
+abbrev pub LeavesOff : TeamValue → ℕ → HandValue View → List LaneValue → Type 0
+LeavesOff t number hand lanes = TeamRan t.plan.crew t.plan.phases t.plan.line t.hand hand t.lanes lanes
 
 module _ {M : Type 0} (seen : M → LaneValue) where
   -- the same of lanes of which a value is seen
@@ -105,4 +105,4 @@ module _ {M : Type 0} (seen : M → LaneValue) where
   abbrev pub DoesPlan : (ℕ → ℕ → MutBor M → Type 0) → (ℕ → ℕ → MutBor M → Unit {0} → MutBor M → Type 0) → (MutBor (HandValue View) → MutBor (Vec M) → Type 0) → (MutBor (HandValue View) → MutBor (Vec M) → Unit {0} → MutBor (HandValue View) → MutBor (Vec M) → Type 0)
       → (MutBor (HandValue View) → MutBor (Vec M) → Type 0) → (MutBor (HandValue View) → MutBor (Vec M) → Bool → MutBor (HandValue View) → MutBor (Vec M) → Type 0) → ℕ → TeamValue → Type 0
   DoesPlan task_accepts task_gives part_accepts part_gives meet_accepts meet_gives span t =
-      DoesPhases task_accepts task_gives part_accepts part_gives meet_accepts meet_gives span (length t.plan.phases) (of_lanes (StandsAt t)) (of_lanes (IsParted t)) (of_lanes (EndsEarly t)) (of_lane (MayDo t.plan)) (of_step (Did t.plan))
+      DoesPhases task_accepts task_gives part_accepts part_gives meet_accepts meet_gives span (length t.plan.phases) (of_lanes (StandsAt t)) (of_lanes (IsParted t)) (of_lanes (LeavesOff t)) (of_lane (MayDo t.plan)) (of_step (Did t.plan))
