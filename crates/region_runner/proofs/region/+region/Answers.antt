@@ -45,6 +45,7 @@ use mir.Syntax.{of_param}
 use denote.Exit.{unseen}
 use denote.Param.Send.{IsSync, Quiet-if, sendable}
 use Rattle.std.proofs.Crossing as heap
+use Rattle.lane_runner.proofs.lane.Lane.TheSendSync as lane_row
 use Rattle.region_runner.proofs.crew.Crew.TheSendSync as crew_row
 use Rattle.region_runner.proofs.ground.Ground.TheSendSync as ground_row
 use Rattle.region_runner.proofs.Crossing.{phase_sync}
@@ -154,6 +155,11 @@ run_phases-go_through-home-requires-sync-T g n c κs within =
     let sync : IsSync g.row.R = record { shared = c.requires.shared.shared } in
     let gate : IsSync g.row.G = record { shared = c.requires.gate_shared.shared } in
     search (sendable, heap.crosses, ground_row.the_sync, crew_row.the_sync, phase_sync) depth 40
+
+pub run_phases-go_through-home-requires-send-M : goal.run_phases-go_through-home-requires-send-M
+run_phases-go_through-home-requires-send-M g n c κs within =
+    let lanes = lane_row.the_send _ g.L.Log c.requires.lanes_sent in
+    record { owned = lanes.owned; leaving = λ k. Quiet-if (k (of_param 1)) unseen unseen (λ x w. tt) (λ x w. tt) }
 
 pub run_phases-go_through-home-requires-clause-does : goal.run_phases-go_through-home-requires-clause-does
 run_phases-go_through-home-requires-clause-does g n c κs within = record {
