@@ -52,3 +52,6 @@ loop-lane-preserved g c =
           ∙ ap (λ m. with_hand m c.trade-own.new.self.hand) (get_or_default c.loop-lane.lanes n c.lane-item.result d within ∙ inv.left n d (omega arith)));
       left = set_above c.loop-lane.lanes n c.trade-own.new.self within (λ i d x. x ≡ slice_index_or c.args.lanes.now i d) inv.left;
     }
+
+pub returns-clause-count : goal.returns-clause-count
+returns-clause-count g c = c.loop-lane.invariant.count

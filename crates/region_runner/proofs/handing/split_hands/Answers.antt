@@ -23,6 +23,9 @@ returns-clause-hand g c =
     let all : c.loop-lane.index ≡ c.args.span = omega (arith, c.loop-lane.invariant.index, c.loop-lane-test.false, c.loop-lane.auto.lane-index-end, c.requires.count) in
     split_all c.args.span c.args.hand.now c.loop-lane.hand (subst (λ (n : ℕ). HasSplit c.args.span c.args.hand.now c.loop-lane.hand n) all c.loop-lane.invariant.hand)
 
+pub returns-clause-count : goal.returns-clause-count
+returns-clause-count g c = c.loop-lane.invariant.count
+
 pub returns-clause-rests : goal.returns-clause-rests
 returns-clause-rests g c = λ some. c.loop-lane.invariant.hand.rests (omega (arith, c.loop-lane.invariant.index, c.loop-lane-test.false, c.requires.count))
 
