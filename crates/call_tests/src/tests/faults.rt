@@ -233,23 +233,24 @@ const CERTAIN: Calls<'static> = Calls {
     ..RACY
 };
 
-const ALL: &[Calls<'static>] = &[
-    ENDS,
-    STOPS,
-    RACES_FOUND,
-    CUT,
-    SAME,
-    DIFFERING,
-    SHOWN,
-    GENERATED,
-    BROUGHT,
-    EXPLAINED,
-    CONFIRMED,
-    RACY,
-    CERTAIN,
-];
+#[test]
+fn each_call_of_run_may_fail(rt: HostRuntime) {
+    all_calls_may_fail(&rt, rt.alloc(), &[ENDS, STOPS]);
+}
 
 #[test]
-fn each_call_of_each_command_may_fail(rt: HostRuntime) {
-    all_calls_may_fail(&rt, rt.alloc(), ALL);
+fn each_call_of_check_explain_and_confirm_may_fail(rt: HostRuntime) {
+    let all = &[RACES_FOUND, CUT, EXPLAINED, CONFIRMED];
+    all_calls_may_fail(&rt, rt.alloc(), all);
+}
+
+#[test]
+fn each_call_of_replay_and_show_may_fail(rt: HostRuntime) {
+    all_calls_may_fail(&rt, rt.alloc(), &[SAME, DIFFERING, SHOWN]);
+}
+
+#[test]
+fn each_call_of_gen_upgrade_and_certify_may_fail(rt: HostRuntime) {
+    let all = &[GENERATED, BROUGHT, RACY, CERTAIN];
+    all_calls_may_fail(&rt, rt.alloc(), all);
 }

@@ -1,6 +1,6 @@
 //! The text of each reason for which a folder is refused.
 
-use crate::tests::fixtures::{Case, EMPTY, Subject, answers, each_passes};
+use crate::tests::fixtures::{Case, EMPTY, all_pass, answers};
 use command_answer::FOLDER_REFUSED;
 use made_folders::{BARRIER, END, ROOT, Rec, lock, region, unlock};
 use memory_environment::MemFolder;
@@ -75,7 +75,12 @@ const FIELDS: &[Case<'static>] = &[
     ),
 ];
 
-const RULES: &[Case<'static>] = &[
+#[test]
+fn a_bad_field_of_a_record_is_told(rt: HostRuntime) {
+    all_pass(&rt, rt.alloc(), FIELDS);
+}
+
+const ENDS: &[Case<'static>] = &[
     root_refused!(&[END, END], "bad log t.swl record 1: EndEarly\n"),
     root_refused!(
         &[(2, 8, 1, 4096, 0)],
@@ -90,7 +95,15 @@ const RULES: &[Case<'static>] = &[
         "bad log t.swl record 2: EndMissing\n"
     ),
     root_refused!(NINE_UNENDED, "bad log t.swl record 9: EndMissing\n"),
-    // With an End behind them these rules are told.
+];
+
+#[test]
+fn an_end_that_is_early_or_missing_is_told(rt: HostRuntime) {
+    all_pass(&rt, rt.alloc(), ENDS);
+}
+
+// With an End behind them these rules are told.
+const RULES: &[Case<'static>] = &[
     root_refused!(
         &[lock!(1, 1), lock!(1, 1), END],
         "bad log t.swl record 2: LockTwice\n"
@@ -132,6 +145,11 @@ const RULES: &[Case<'static>] = &[
     },
 ];
 
+#[test]
+fn a_rule_that_a_record_breaks_is_told(rt: HostRuntime) {
+    all_pass(&rt, rt.alloc(), RULES);
+}
+
 // The index of a root alone whose log has one record.
 const ROOT_ROW: &str =
     "SWIDX002\0\0\0\0\0\0\0\0\0\0\0\0\0\0\0\0\0\0\0\0\0\0\0\0\0\0\0\0\0\0\0\0\0\0\0\0\0\0\0\0\0\0\0\0\0\0\0\u{1}";
@@ -169,6 +187,11 @@ const FILES: &[Case<'static>] = &[
     ),
 ];
 
+#[test]
+fn bytes_that_are_no_index_or_log_are_told(rt: HostRuntime) {
+    all_pass(&rt, rt.alloc(), FILES);
+}
+
 // The row of a lane that is alone in this region, whose log has one record.
 fn add_row(rt: &impl Abort, index: &mut Vec<u8>, region: u32) {
     index
@@ -201,15 +224,4 @@ fn a_row_too_many_is_told(rt: HostRuntime) {
         .expect(&rt, "memory");
     let text = "bad index row 65537: TooMany\n";
     answers(&rt, alloc, &mut folder, CHECK, FOLDER_REFUSED, text);
-}
-
-const SUBJECTS: &[Subject<'static>] = &[
-    ("a bad field of a record is told", FIELDS),
-    ("a rule that a record breaks is told", RULES),
-    ("bytes that are no index or log are told", FILES),
-];
-
-#[test]
-fn each_reason_of_a_refusal_is_told(rt: HostRuntime) {
-    each_passes(&rt, rt.alloc(), SUBJECTS);
 }

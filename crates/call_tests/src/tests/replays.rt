@@ -1,7 +1,8 @@
 //! `replay`: folders against their kernels and against others, and why there is no comparison.
 
 use crate::tests::fixtures::{
-    Case, EMPTY, REPLAY, RUN, Subject, USAGE_LINE, answers, each_passes, folder_of, passes,
+    Case, EMPTY, REPLAY, RUN, Subject, USAGE_LINE, all_pass, answers, each_passes, folder_of,
+    passes,
 };
 use command_answer::{DIFFERS, DONE, FOLDER_REFUSED, KERNEL_REFUSED, USAGE};
 use made_folders::{END, ROOT, Rec, region, store};
@@ -228,6 +229,20 @@ const DRAWN: Case<'static> = Case {
     ..EMPTY
 };
 
+const LEAVING: &[Subject<'static>] = &[
+    ("another kernel differs", &[OTHERS]),
+    (
+        "a log is neither shorter nor longer than its trace",
+        ONE_TASK,
+    ),
+    ("chunks are those that the logs draw", &[DRAWN]),
+];
+
+#[test]
+fn a_replay_tells_where_a_folder_leaves_its_kernel(rt: HostRuntime) {
+    each_passes(&rt, rt.alloc(), LEAVING);
+}
+
 // Lanes of a lane's region see its locals.
 const NESTED: &str = "array a i64 4
 main {
@@ -296,6 +311,11 @@ const LOCALS: &[Case<'static>] = &[
     },
 ];
 
+#[test]
+fn a_task_starts_from_the_locals_at_its_fork(rt: HostRuntime) {
+    all_pass(&rt, rt.alloc(), LOCALS);
+}
+
 const REFUSED: &[Case<'static>] = &[
     Case {
         asked: &[(REPLAY, KERNEL_REFUSED, "no kernel\n")],
@@ -330,19 +350,12 @@ const OTHER_WORDS: Case<'static> = Case {
     ..EMPTY
 };
 
-const SUBJECTS: &[Subject<'static>] = &[
-    ("another kernel differs", &[OTHERS]),
-    (
-        "a log is neither shorter nor longer than its trace",
-        ONE_TASK,
-    ),
-    ("chunks are those that the logs draw", &[DRAWN]),
-    ("a task starts from the locals at its fork", LOCALS),
+const NO_REPLAY: &[Subject<'static>] = &[
     ("no kernel or no folder is refused", REFUSED),
     ("other words are a usage fault", &[OTHER_WORDS]),
 ];
 
 #[test]
-fn a_replay_tells_where_a_folder_leaves_its_kernel(rt: HostRuntime) {
-    each_passes(&rt, rt.alloc(), SUBJECTS);
+fn a_replay_without_a_kernel_or_a_folder_is_refused(rt: HostRuntime) {
+    each_passes(&rt, rt.alloc(), NO_REPLAY);
 }

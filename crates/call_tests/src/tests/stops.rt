@@ -1,6 +1,8 @@
 //! Kernels that stop: which stop is told, and what is left of the run.
 
-use crate::tests::fixtures::{Case, EMPTY, Past, RUN, Subject, all_pass_past, each_passes};
+use crate::tests::fixtures::{
+    Case, EMPTY, Past, RUN, Subject, all_pass, all_pass_past, each_passes,
+};
 use command_answer::{DONE, FOLDER_REFUSED, KERNEL_STOPPED, WRITE_FAULT};
 
 // Lane 1 leaves the array, or divides by 0.
@@ -123,6 +125,16 @@ const GUARDED_STOPS: &[Case<'static>] = &[
     },
 ];
 
+const STOPPING: &[Subject<'static>] = &[
+    ("a stop leaves the logs of all tasks", STOPS),
+    ("a stop ends who holds and who waits", GUARDED_STOPS),
+];
+
+#[test]
+fn a_stop_is_told_and_ends_each_task(rt: HostRuntime) {
+    each_passes(&rt, rt.alloc(), STOPPING);
+}
+
 const ONE_BY_ONE: &[&str] = &["run", "k", "d", "24"];
 
 // The root's third call on its log fails, and then a lane's second. Where the run stops lane 0 has its End.
@@ -191,6 +203,11 @@ const TOO_MANY: Case<'static> = Case {
     ..EMPTY
 };
 
+#[test]
+fn a_run_has_no_65537_tasks(rt: HostRuntime) {
+    all_pass(&rt, rt.alloc(), &[TOO_MANY]);
+}
+
 // The root, 1,023 regions of 64 lanes, and one of 63. The root has a record for each region and an End, and each lane an End.
 const WHOLE: Case<'static> = Case {
     held: &[(
@@ -200,6 +217,11 @@ const WHOLE: Case<'static> = Case {
     asked: &[(RUN, DONE, "tasks 65536\nrecords 66560\n")],
     ..EMPTY
 };
+
+#[test]
+fn a_run_has_65536_tasks(rt: HostRuntime) {
+    all_pass(&rt, rt.alloc(), &[WHOLE]);
+}
 
 // Each of four lanes, one after another, has 20,000 barrier intervals with a store, and a record for each of these, for its barrier, and for
 // its end. So the last one may have 5,536.
@@ -218,6 +240,11 @@ const PARTED: Case<'static> = Case {
     ],
     ..EMPTY
 };
+
+#[test]
+fn a_run_may_have_too_many_segments(rt: HostRuntime) {
+    all_pass(&rt, rt.alloc(), &[PARTED]);
+}
 
 // A lane that puts so many records, does this then, and stops so.
 macro_rules! full {
@@ -259,6 +286,11 @@ const FULL: &[Case<'static>] = &[
     full!("4194304", "let x = a[1]", OUTSIDE),
 ];
 
+#[test]
+fn a_log_has_no_4194305_records(rt: HostRuntime) {
+    all_pass(&rt, rt.alloc(), FULL);
+}
+
 // The root puts as many records as a log may have, and one more.
 const WHOLE_LOGS: &[Case<'static>] = &[
     Case {
@@ -279,17 +311,7 @@ const WHOLE_LOGS: &[Case<'static>] = &[
     },
 ];
 
-const SUBJECTS: &[Subject<'static>] = &[
-    ("a stop leaves the logs of all tasks", STOPS),
-    ("a stop ends who holds and who waits", GUARDED_STOPS),
-    ("a run has no 65537 tasks", &[TOO_MANY]),
-    ("a run has 65536 tasks", &[WHOLE]),
-    ("a run may have too many segments", &[PARTED]),
-    ("a log has no 4194305 records", FULL),
-    ("a log has 4194304 records", WHOLE_LOGS),
-];
-
 #[test]
-fn stops_and_limits_are_told(rt: HostRuntime) {
-    each_passes(&rt, rt.alloc(), SUBJECTS);
+fn a_log_has_4194304_records(rt: HostRuntime) {
+    all_pass(&rt, rt.alloc(), WHOLE_LOGS);
 }
