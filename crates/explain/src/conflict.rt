@@ -6,15 +6,24 @@ ghost use Rattle.explain.specs.Witness.{ConflictAt, IsLeastByte};
 
 use crate::finding::Found;
 use log_format::Record;
+use pair_compare::{Effect, may_race};
+
+fn effect_of(record: &Record) -> Effect
+    ensures { (IsTrue result.write ↔ IsChange record.now) × (IsTrue result.atomic ↔ (record.now.kind ≡ Update)) }
+{
+    Effect {
+        write: record.kind.is_change(),
+        atomic: record.kind.is_update(),
+    }
+}
 
 /// Whether both are accesses, one of them changes memory, and not both update it.
-fn may_race(one: &Record, other: &Record) -> bool
+fn are_racing(one: &Record, other: &Record) -> bool
     ensures { IsTrue result ↔ (IsAccess one.now × IsAccess other.now × (IsChange one.now ⊎ IsChange other.now) × (one.now.kind ≡ Update → other.now.kind ≡ Update → ⊥)) }
 {
     one.kind.is_access()
         && other.kind.is_access()
-        && (one.kind.is_change() || other.kind.is_change())
-        && !(one.kind.is_update() && other.kind.is_update())
+        && may_race(effect_of(one), effect_of(other))
 }
 
 /// The first byte that two accesses have in common.
@@ -30,7 +39,7 @@ fn common_byte(one: &Record, other: &Record) -> Option<u64>
 pub fn conflict(one: &Found, other: &Found) -> Option<u64>
     ensures { (byte : ℕ) → (result ≡ Some byte) ↔ ConflictAt one.now other.now byte }
 {
-    if may_race(&one.event, &other.event) && one.held.disjoint(&other.held) {
+    if are_racing(&one.event, &other.event) && one.held.disjoint(&other.held) {
         common_byte(&one.event, &other.event)
     } else {
         None
