@@ -6,7 +6,7 @@ ghost use Rattle.explain.specs.Witness.{ConflictAt, IsLeastByte};
 
 use crate::finding::Found;
 use log_format::Record;
-use pair_compare::{Effect, may_race};
+use pair_compare::{Effect, may_conflict};
 
 fn effect_of(record: &Record) -> Effect
     ensures { (IsTrue result.write ↔ IsChange record.now) × (IsTrue result.atomic ↔ (record.now.kind ≡ Update)) }
@@ -18,12 +18,12 @@ fn effect_of(record: &Record) -> Effect
 }
 
 /// Whether both are accesses, one of them changes memory, and not both update it.
-fn are_racing(one: &Record, other: &Record) -> bool
+fn may_race(one: &Record, other: &Record) -> bool
     ensures { IsTrue result ↔ (IsAccess one.now × IsAccess other.now × (IsChange one.now ⊎ IsChange other.now) × (one.now.kind ≡ Update → other.now.kind ≡ Update → ⊥)) }
 {
     one.kind.is_access()
         && other.kind.is_access()
-        && may_race(effect_of(one), effect_of(other))
+        && may_conflict(effect_of(one), effect_of(other))
 }
 
 /// The first byte that two accesses have in common.
@@ -39,7 +39,7 @@ fn common_byte(one: &Record, other: &Record) -> Option<u64>
 pub fn conflict(one: &Found, other: &Found) -> Option<u64>
     ensures { (byte : ℕ) → (result ≡ Some byte) ↔ ConflictAt one.now other.now byte }
 {
-    if are_racing(&one.event, &other.event) && one.held.disjoint(&other.held) {
+    if may_race(&one.event, &other.event) && one.held.disjoint(&other.held) {
         common_byte(&one.event, &other.event)
     } else {
         None

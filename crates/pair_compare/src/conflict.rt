@@ -18,7 +18,7 @@ pub struct Effect {
 }
 
 /// Whether two accesses with these effects race where they share a byte and nothing orders them: one changes memory, and not both in one step.
-pub fn may_race(one: Effect, other: Effect) -> bool
+pub fn may_conflict(one: Effect, other: Effect) -> bool
     ensures { IsTrue result ↔ ((IsTrue one.write ⊎ IsTrue other.write) × (IsTrue one.atomic → IsTrue other.atomic → ⊥)) }
 {
     (one.write || other.write) && !(one.atomic && other.atomic)
@@ -51,7 +51,7 @@ pub fn add_conflict(a: &Run, b: &Run, pairs: &mut BTreeSet<(u32, u32)>) -> Resul
     ensures added { OnOk result (AddsPairs pairs.old.keys pairs.new.keys (IsRunPair a.now (b.now ∷ []))) }
     ensures refused { OnErr result (AddsSome pairs.old.keys pairs.new.keys (IsRunPair a.now (b.now ∷ []))) }
 {
-    if !may_race(effect_of(a), effect_of(b)) {
+    if !may_conflict(effect_of(a), effect_of(b)) {
         return Ok(());
     }
     let lines = lines_of(a, b);

@@ -2,7 +2,7 @@ use Rattle.explain.proofs.conflict.conflict.Goals as goal
 
 pub returns-then-disjoint : goal.returns-then-disjoint
 returns-then-disjoint c = λ byte.
-    let may = c.are_racing.ensures.0 c.if-are_racing.true in
+    let may = c.may_race.ensures.0 c.if-may_race.true in
     let apart = c.disjoint.ensures.0 c.if-disjoint.true in (
       λ is. record {
         one_access = may.0;
