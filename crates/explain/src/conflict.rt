@@ -8,12 +8,13 @@ use crate::finding::Found;
 use log_format::Record;
 use pair_compare::{Effect, may_conflict};
 
-fn effect_of(record: &Record) -> Effect
-    ensures { (IsTrue result.write ↔ IsChange record.now) × (IsTrue result.atomic ↔ (record.now.kind ≡ Update)) }
+fn effect_of(access: &Record) -> Effect
+    ensures write { IsTrue result.write ↔ IsChange access.now }
+    ensures atomic { IsTrue result.atomic ↔ (access.now.kind ≡ Update) }
 {
     Effect {
-        write: record.kind.is_change(),
-        atomic: record.kind.is_update(),
+        write: access.kind.is_change(),
+        atomic: access.kind.is_update(),
     }
 }
 
@@ -21,9 +22,7 @@ fn effect_of(record: &Record) -> Effect
 fn may_race(one: &Record, other: &Record) -> bool
     ensures { IsTrue result ↔ (IsAccess one.now × IsAccess other.now × (IsChange one.now ⊎ IsChange other.now) × (one.now.kind ≡ Update → other.now.kind ≡ Update → ⊥)) }
 {
-    one.kind.is_access()
-        && other.kind.is_access()
-        && may_conflict(effect_of(one), effect_of(other))
+    one.kind.is_access() && other.kind.is_access() && may_conflict(effect_of(one), effect_of(other))
 }
 
 /// The first byte that two accesses have in common.

@@ -25,12 +25,20 @@ pub fn may_conflict(one: Effect, other: Effect) -> bool
 }
 
 fn effect_of(run: &Run) -> Effect
-    ensures { result ≡ record { write = run.now.write; atomic = run.now.atomic } }
+    ensures write { result.write ≡ run.now.write }
+    ensures atomic { result.atomic ≡ run.now.atomic }
 {
     Effect {
         write: run.write,
         atomic: run.atomic,
     }
+}
+
+// Whether one of them writes, and not both are atomic.
+fn may_race(a: &Run, b: &Run) -> bool
+    ensures { IsTrue result ↔ ((IsTrue a.now.write ⊎ IsTrue b.now.write) × (IsTrue a.now.atomic → IsTrue b.now.atomic → ⊥)) }
+{
+    may_conflict(effect_of(a), effect_of(b))
 }
 
 /// Whether the two runs have a common byte, and no mutex was held at both.
@@ -51,7 +59,7 @@ pub fn add_conflict(a: &Run, b: &Run, pairs: &mut BTreeSet<(u32, u32)>) -> Resul
     ensures added { OnOk result (AddsPairs pairs.old.keys pairs.new.keys (IsRunPair a.now (b.now ∷ []))) }
     ensures refused { OnErr result (AddsSome pairs.old.keys pairs.new.keys (IsRunPair a.now (b.now ∷ []))) }
 {
-    if !may_conflict(effect_of(a), effect_of(b)) {
+    if !may_race(a, b) {
         return Ok(());
     }
     let lines = lines_of(a, b);
