@@ -9,14 +9,14 @@ use Rattle.race_model.specs.LogFault.{max_segments}
 use Rattle.race_model.specs.Segment.{segment_count}
 use Rattle.race_model.specs.Trace.{TaskLog, Trace}
 use Rattle.certify.specs.Verdicts.{OpensTheFirst}
-use Rattle.certify_laws.specs.Opening.{last_path, one_interval, run_of, two_intervals}
+use Rattle.certify_laws.specs.Opening.{last_path, one_interval, run_with, two_intervals}
 use Rattle.certify_laws.proofs.TooMany.{not_few, same_first}
 
-found : (n : ℕ) → slice_get (run_of n) n ≡ Some two_intervals
+found : (n : ℕ) → slice_get (run_with n) n ≡ Some two_intervals
 found zero = refl
 found (suc n) = found n
 
-before : (n : ℕ) → take n (run_of n) ≡ replicate n one_interval
+before : (n : ℕ) → take n (run_with n) ≡ replicate n one_interval
 before zero = refl
 before (suc n) = ap (λ (tasks : Trace). one_interval ∷ tasks) (before n)
 
@@ -28,7 +28,7 @@ counted (suc n) =
     = sum_by-cons (λ (t : TaskLog). segment_count t.records) one_interval (replicate n one_interval) in
     omega (arith, one, sum, counted n)
 
-pub opens : (n : ℕ) → n + 1 ≡ max_segments → OpensTheFirst (run_of n) last_path 3
+pub opens : (n : ℕ) → n + 1 ≡ max_segments → OpensTheFirst (run_with n) last_path 3
 opens n more = record {
   index = n;
   task = two_intervals;
@@ -41,10 +41,10 @@ opens n more = record {
   opens = refl;
 }
 
-pub not_another : (n number : ℕ) → n + 1 ≡ max_segments → OpensTheFirst (run_of n) last_path number → number ≡ 3
-not_another n number more other = (same_first (run_of n) last_path last_path 3 number (opens n more) other).1
+pub not_another : (n number : ℕ) → n + 1 ≡ max_segments → OpensTheFirst (run_with n) last_path number → number ≡ 3
+not_another n number more other = (same_first (run_with n) last_path last_path 3 number (opens n more) other).1
 
-pub none : (n : ℕ) (path : List Step) (number : ℕ) → n + 2 ≤ max_segments → OpensTheFirst (run_of n) path number → ⊥
+pub none : (n : ℕ) (path : List Step) (number : ℕ) → n + 2 ≤ max_segments → OpensTheFirst (run_with n) path number → ⊥
 none n path number less first =
-    not_few (run_of n) path number first
+    not_few (run_with n) path number first
     (let two : segment_count two_intervals.records ≡ 2 = refl in omega (arith, less, two, counted n, segments_push (replicate n one_interval) two_intervals))

@@ -6,19 +6,19 @@ use Rattle.log_format.specs.declared.record.Kind.TheVariants as kind
 use Rattle.race_model.specs.Trace.{TaskLog, Trace}
 use Rattle.kernel_model.specs.State.{event}
 
-abbrev pub access : Record
-access = record { kind = kind.Write; size = 8; site = 0; line = 3; addr = 4096; value = 1 }
+abbrev pub one_write : Record
+one_write = record { kind = kind.Write; size = 8; site = 0; line = 3; addr = 4096; value = 1 }
 
 -- a task with one
 abbrev pub one_interval : TaskLog
-one_interval = record { path = []; records = access ∷ [] }
+one_interval = record { path = []; records = one_write ∷ [] }
 
 abbrev pub last_path : List Step
 last_path = record { region = 0; lane = 1; span = 2 } ∷ []
 
 -- and one whose third record opens its second
 abbrev pub two_intervals : TaskLog
-two_intervals = record { path = last_path; records = access ∷ event kind.Barrier 4 0 0 ∷ access ∷ [] }
+two_intervals = record { path = last_path; records = one_write ∷ event kind.Barrier 4 0 0 ∷ one_write ∷ [] }
 
-abbrev pub run_of : ℕ → Trace
-run_of n = replicate n one_interval ++ two_intervals ∷ []
+abbrev pub run_with : ℕ → Trace
+run_with n = replicate n one_interval ++ two_intervals ∷ []

@@ -6,15 +6,23 @@ ghost use Rattle.explain.specs.Witness.{ConflictAt, IsLeastByte};
 
 use crate::finding::Found;
 use log_format::Record;
+use pair_compare::{Effect, may_conflict};
+
+fn effect_of(access: &Record) -> Effect
+    ensures write { IsTrue result.write ↔ IsChange access.now }
+    ensures atomic { IsTrue result.atomic ↔ (access.now.kind ≡ Update) }
+{
+    Effect {
+        write: access.kind.is_change(),
+        atomic: access.kind.is_update(),
+    }
+}
 
 /// Whether both are accesses, one of them changes memory, and not both update it.
 fn may_race(one: &Record, other: &Record) -> bool
     ensures { IsTrue result ↔ (IsAccess one.now × IsAccess other.now × (IsChange one.now ⊎ IsChange other.now) × (one.now.kind ≡ Update → other.now.kind ≡ Update → ⊥)) }
 {
-    one.kind.is_access()
-        && other.kind.is_access()
-        && (one.kind.is_change() || other.kind.is_change())
-        && !(one.kind.is_update() && other.kind.is_update())
+    one.kind.is_access() && other.kind.is_access() && may_conflict(effect_of(one), effect_of(other))
 }
 
 /// The first byte that two accesses have in common.

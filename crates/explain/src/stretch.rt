@@ -2,7 +2,7 @@
 ghost use Rattle.std.specs.Prelude.{◌≡◌, ◌↔◌, ◌+◌, ℕ, Contains, IsTrue};
 ghost use Rattle.explain.specs.Suspects.{IsRunWithin};
 
-use sw_base::{Path, Step};
+use sw_base::Path;
 
 /// The records of a task's log from one to another, by their numbers from 1.
 #[derive(Drop)]
@@ -12,17 +12,11 @@ pub struct RecordRange {
     pub last: u32,
 }
 
-fn are_same(steps: &[Step], others: &[Step]) -> bool
-    ensures { IsTrue result ↔ (steps.now ≡ others.now) }
-{
-    steps == others
-}
-
 /// Whether both are the path of one task.
 fn is_path(path: &Path, other: &Path) -> bool
     ensures { IsTrue result ↔ (path.now ≡ other.now) }
 {
-    are_same(path.steps(), other.steps())
+    path == other
 }
 
 /// Whether the record of this number in the task's log is one from the first to the last of a task's.

@@ -1,6 +1,6 @@
 //! Which barrier intervals a record may race with, by their strided runs.
 ghost use Rattle.std.specs.Prelude.{◌≡◌, ◌<◌, All, Contains, IsTrue, IfOk, IfSome, OnOk};
-ghost use Rattle.log_segment.specs.Accesses.{is_atomic, is_write, key_at};
+ghost use Rattle.log_segment.specs.Accesses.{key_at};
 ghost use Rattle.log_segment.specs.declared.segment.Segment.{Segment as Interval};
 ghost use Rattle.pair_compare.specs.Compare.{IsRacingPair, IsSegmentPair};
 ghost use Rattle.stride_summary.specs.Run.{HasRunAddress, run_key};
@@ -12,7 +12,6 @@ use crate::finding::Found;
 use crate::stretch::{RecordRange, is_within};
 use crate::suspect::{Suspect, line_of};
 use crate::suspects::Suspects;
-use log_format::Kind;
 use log_segment::Segment;
 use pair_compare::compare_alone;
 use std::alloc::Global;
@@ -99,37 +98,6 @@ pub fn is_row_suspected(
     Ok(false)
 }
 
-fn is_written(kind: Kind) -> bool
-    ensures { result ≡ is_write kind }
-{
-    match kind {
-        Kind::Write | Kind::Update => true,
-        Kind::Read
-        | Kind::Lock
-        | Kind::Unlock
-        | Kind::Barrier
-        | Kind::Region
-        | Kind::Chunk
-        | Kind::End => false,
-    }
-}
-
-fn is_in_one_step(kind: Kind) -> bool
-    ensures { result ≡ is_atomic kind }
-{
-    match kind {
-        Kind::Update => true,
-        Kind::Read
-        | Kind::Write
-        | Kind::Lock
-        | Kind::Unlock
-        | Kind::Barrier
-        | Kind::Region
-        | Kind::Chunk
-        | Kind::End => false,
-    }
-}
-
 /// The run of a record alone, where it has the form of an access.
 fn run_of(one: &Found) -> Option<Run>
     ensures { IfSome result (λ run. (run_key run ≡ key_at one.now.event one.now.held) × HasRunAddress run one.now.event.addr) }
@@ -143,8 +111,8 @@ fn run_of(one: &Found) -> Option<Run>
         stride: 0,
         count: 1,
         size: event.size,
-        write: is_written(event.kind),
-        atomic: is_in_one_step(event.kind),
+        write: event.kind.is_change(),
+        atomic: event.kind.is_update(),
         line: event.line,
         site: event.site,
         held: one.held.copy(),

@@ -75,6 +75,10 @@ IsLogRefused format bytes task opened (fault.TooMany n) = OpensTooMany format by
 IsLogRefused format bytes task opened fault.ReadFault = Unit {0}
 IsLogRefused format bytes task opened fault.Memory = Unit {0}
 
+-- the same, where the bytes are told
+abbrev pub RefusesLog : Format → Option (List ℕ) → LogTask → ℕ → LogFault → Type 0
+RefusesLog format told task opened e = WhereTold told (λ bytes. IsLogRefused format bytes task opened e)
+
 -- a log is good: these are its records, and with it and the earlier logs there are so many segments
 pub record IsGoodLog (format : Format) (bytes : List ℕ) (task : LogTask) (opened : ℕ) (records : List Record) (segments : ℕ) : Type 0 where
   pub whole : bytes ≡ log_bytes (log_header format) records

@@ -33,3 +33,8 @@ pub record LogSoFar (format : Format) (bytes : Option (List ℕ)) (task : LogTas
   pub own : IsOwnAfter walk.label (index + 1)
   pub after : IsWalkAfter walk records
   pub read : bytes ≡ option_map (λ rest. log_bytes (log_header format) records ++ rest) left
+
+-- this is so of each log of which so many records may have been gone over
+abbrev pub WhereSoFar : Format → LogTask → State → Walk → Option (List ℕ) → List Segment → ℕ → (Option (List ℕ) → ℕ → List Triple → List Segment → Type 0) → Type 0
+WhereSoFar format task state walk left found index IsSo =
+    (bytes : Option (List ℕ)) (opened : ℕ) (label : List Triple) (old : List Segment) → LogSoFar format bytes task opened label state walk left old found index → IsSo bytes opened label old

@@ -53,6 +53,10 @@ pub record IsStackAfter (format : Format) (rows : List Row) (stack : Stack) (tra
   pub forks : (row : Row) → slice_get rows (length trace) ≡ Some row → KnowsForks stack trace row.path
   pub teams : (row : Row) → slice_get rows (length trace) ≡ Some row → KnowsTeams stack trace row.path
 
+-- this is so of all tasks that the stack may stand after, and of the row that comes next
+abbrev pub AtNext : Format → List Row → Stack → (Trace → Row → Type 0) → Type 0
+AtNext format rows stack IsSo = (trace : Trace) (row : Row) → IsStackAfter format rows stack trace → slice_get rows stack.place ≡ Some row → IsSo trace row
+
 -- the log of the next row was gone over
 pub record WalksTask (format : Format) (told : Option Content) (dir : List ℕ) (rows : List Row) (stack : Stack) (trace : Trace) (row : Row) (old new : List Segment) : Type 0 where
   pub records : List Record

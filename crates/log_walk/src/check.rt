@@ -1,14 +1,13 @@
 //! The check of one log.
 ghost use Rattle.std.specs.Prelude.{◌≡◌, ◌+◌, ◌-◌, ◌*◌, ◌<◌, ◌≤◌, ℕ, List, Option, [], ◌∷◌, ◌++◌, length, drop, IfOk, IfErr, IsErrOf, IsTrue, IsFalse, OnOk};
 ghost use Rattle.log_format.specs.Limit.{record_limit};
-ghost use Rattle.sw_base.specs.Environment.{WhereTold};
 ghost use Rattle.log_format.specs.Table.{HasAddress, Spells};
 ghost use Rattle.log_format.specs.declared.format.Format.{Format};
 ghost use Rattle.log_format.specs.declared.record.Record.{Record};
 ghost use Rattle.log_segment.specs.declared.segment.Segment.{Segment};
 ghost use Rattle.log_segment.specs.Walking.{IsOwnAfter};
-ghost use Rattle.log_walk.specs.Check.{of_why, IsNextRefused, ChecksLog, IsLogRefused};
-ghost use Rattle.log_walk.specs.LogSoFar.{LogSoFar};
+ghost use Rattle.log_walk.specs.Check.{of_why, IsNextRefused, ChecksLog, RefusesLog};
+ghost use Rattle.log_walk.specs.LogSoFar.{LogSoFar, WhereSoFar};
 ghost use Rattle.log_walk.specs.Rules.{BreaksNone, log_task_of};
 ghost use Rattle.log_walk.specs.State.{IsStateAfter, IsWalkAfter};
 ghost use Rattle.log_walk.specs.Unread.{CountsFaults, unread};
@@ -146,14 +145,12 @@ fn walk_ahead(
     requires before { before ≤ task.now.records }
     requires so { (bytes : Option (List ℕ)) × (rest : Option (List ℕ)) × (opened : ℕ) × (label : List Triple) × (old : List Segment)
         × LogSoFar format bytes (log_task_of task.now) opened label state.old walk.old (unread ahead.now rest) old found.old.items before }
-    ensures goes { (bytes : Option (List ℕ)) (rest : Option (List ℕ)) (opened : ℕ) (label : List Triple) (old : List Segment)
-        → LogSoFar format bytes (log_task_of task.now) opened label state.old walk.old (unread ahead.now rest) old found.old.items before
-        → IfOk result (λ after. LogSoFar format bytes (log_task_of task.now) opened label state.new walk.new (unread (drop (24 * (after - before)) ahead.now) rest) old found.new.items after) }
+    ensures goes { (rest : Option (List ℕ)) → WhereSoFar format (log_task_of task.now) state.old walk.old (unread ahead.now rest) found.old.items before (λ bytes opened label old.
+        IfOk result (λ after. LogSoFar format bytes (log_task_of task.now) opened label state.new walk.new (unread (drop (24 * (after - before)) ahead.now) rest) old found.new.items after)) }
     ensures within { IfOk result (λ after. (before ≤ after) × (after ≤ task.now.records) × (24 * (after - before) ≤ length ahead.now)) }
     ensures all { IfOk result (λ after. after < task.now.records → length ahead.now < 24 * (after - before) + 24) }
-    ensures refused { (bytes : Option (List ℕ)) (rest : Option (List ℕ)) (opened : ℕ) (label : List Triple) (old : List Segment)
-        → LogSoFar format bytes (log_task_of task.now) opened label state.old walk.old (unread ahead.now rest) old found.old.items before
-        → IfErr result (λ e. WhereTold bytes (λ b. IsLogRefused format b (log_task_of task.now) opened e)) }
+    ensures refused { (rest : Option (List ℕ)) → WhereSoFar format (log_task_of task.now) state.old walk.old (unread ahead.now rest) found.old.items before (λ bytes opened label old.
+        IfErr result (RefusesLog format bytes (log_task_of task.now) opened)) }
     ensures read { IsErrOf result LogFault.ReadFault → ⊥ }
 {
     let mut after = before;
@@ -197,13 +194,11 @@ fn next_records<T: File>(
     requires before { before < task.now.records }
     requires so { (bytes : Option (List ℕ)) × (opened : ℕ) × (label : List Triple) × (old : List Segment)
         × LogSoFar format bytes (log_task_of task.now) opened label state.old walk.old (unread window.old (T.rest file.old)) old found.old.items before }
-    ensures goes { (bytes : Option (List ℕ)) (opened : ℕ) (label : List Triple) (old : List Segment)
-        → LogSoFar format bytes (log_task_of task.now) opened label state.old walk.old (unread window.old (T.rest file.old)) old found.old.items before
-        → IfOk result (λ after. LogSoFar format bytes (log_task_of task.now) opened label state.new walk.new (unread window.new (T.rest file.new)) old found.new.items after) }
+    ensures goes { WhereSoFar format (log_task_of task.now) state.old walk.old (unread window.old (T.rest file.old)) found.old.items before (λ bytes opened label old.
+        IfOk result (λ after. LogSoFar format bytes (log_task_of task.now) opened label state.new walk.new (unread window.new (T.rest file.new)) old found.new.items after)) }
     ensures within { IfOk result (λ after. (before < after) × (after ≤ task.now.records)) }
-    ensures refused { (bytes : Option (List ℕ)) (opened : ℕ) (label : List Triple) (old : List Segment)
-        → LogSoFar format bytes (log_task_of task.now) opened label state.old walk.old (unread window.old (T.rest file.old)) old found.old.items before
-        → IfErr result (λ e. WhereTold bytes (λ b. IsLogRefused format b (log_task_of task.now) opened e)) }
+    ensures refused { WhereSoFar format (log_task_of task.now) state.old walk.old (unread window.old (T.rest file.old)) found.old.items before (λ bytes opened label old.
+        IfErr result (RefusesLog format bytes (log_task_of task.now) opened)) }
 
     ensures reads { CountsFaults (T.faults file.old) (T.faults file.new) (IsErrOf result LogFault.ReadFault) }
 {
@@ -235,7 +230,7 @@ pub fn check_log<T: File>(
     requires records { task.now.records ≤ record_limit }
     requires own { IsOwnAfter label 1 }
     ensures good { IfOk result (λ checked. ChecksLog format (T.rest file.old) task.now opened label checked found.old.items found.new.items) }
-    ensures refused { IfErr result (λ e. WhereTold (T.rest file.old) (λ b. IsLogRefused format b (log_task_of task.now) opened e)) }
+    ensures refused { IfErr result (RefusesLog format (T.rest file.old) (log_task_of task.now) opened) }
 
     ensures reads { CountsFaults (T.faults file.old) (T.faults file.new) (IsErrOf result LogFault.ReadFault) }
 {

@@ -7,7 +7,7 @@ ghost use Rattle.race_model.specs.Row.{Row};
 ghost use Rattle.race_model.specs.IndexFault.{AreRows};
 ghost use Rattle.race_model.specs.Trace.{Trace};
 ghost use Rattle.log_walk.specs.Rules.{log_task_of};
-ghost use Rattle.log_walk.specs.Stack.{IsStackAfter, WalksTask};
+ghost use Rattle.log_walk.specs.Stack.{AtNext, IsStackAfter, WalksTask};
 ghost use Rattle.log_walk.specs.Unread.{OpensFile};
 ghost use Rattle.log_walk.specs.Walk.{of_log, IsUnread, IsTaskOf, RefusesNext};
 
@@ -91,11 +91,9 @@ pub fn walk_log<F: Folder>(
     requires rows { AreRows rows.now }
     requires within { stack.old.place < length rows.now }
     requires stands { (trace : Trace) × IsStackAfter format rows.now stack.old trace }
-    ensures walks { (trace : Trace) (row : Row) → IsStackAfter format rows.now stack.old trace → slice_get rows.now stack.old.place ≡ Some row
-        → OnOk result (WalksTask format (F.state folder.old).content dir.now rows.now stack.new trace row found.old.items found.new.items) }
+    ensures walks { AtNext format rows.now stack.old (λ trace row. OnOk result (WalksTask format (F.state folder.old).content dir.now rows.now stack.new trace row found.old.items found.new.items)) }
     ensures place { OnOk result (stack.new.place ≡ stack.old.place + 1) }
-    ensures refused { (trace : Trace) (row : Row) → IsStackAfter format rows.now stack.old trace → slice_get rows.now stack.old.place ≡ Some row
-        → IfErr result (RefusesNext format (F.state folder.old).content dir.now rows.now trace row) }
+    ensures refused { AtNext format rows.now stack.old (λ trace row. IfErr result (RefusesNext format (F.state folder.old).content dir.now rows.now trace row)) }
     ensures reads { OnlyReads F.Folder folder.old folder.new (IsErrOf result WalkFault.ReadFault) }
 {
     let row = &rows[stack.place];

@@ -8,7 +8,7 @@ ghost use Rattle.race_model.specs.LogFault.{max_segments};
 ghost use Rattle.race_model.specs.Row.{Row};
 ghost use Rattle.race_model.specs.Trace.{Trace};
 ghost use Rattle.log_walk.specs.Ahead.{StandsAsRead, IsAhead};
-ghost use Rattle.log_walk.specs.Stack.{IsStackAfter, WalksTask};
+ghost use Rattle.log_walk.specs.Stack.{AtNext, IsStackAfter, WalksTask};
 ghost use Rattle.log_walk.specs.Walk.{RefusesNext};
 
 use crate::ahead::Ahead;
@@ -52,8 +52,7 @@ fn agrees(rows: &[IndexRow], stack: &Stack, read: &Ahead) -> bool
     requires rows { AreRows rows.now }
     requires within { stack.now.place < length rows.now }
     requires stands { (format : Format) × (trace : Trace) × IsStackAfter format rows.now stack.now trace }
-    ensures { (format : Format) (trace : Trace) (row : Row) → IsStackAfter format rows.now stack.now trace → slice_get rows.now stack.now.place ≡ Some row
-        → IsTrue result → StandsAsRead trace row stack.now.segments read.now }
+    ensures { (format : Format) → AtNext format rows.now stack.now (λ trace row. IsTrue result → StandsAsRead trace row stack.now.segments read.now) }
 {
     let row = &rows[stack.place];
     let label = first_label(&stack.forks, &row.path);
@@ -85,8 +84,7 @@ fn take(ahead: &mut Vec<Ahead>, rows: &[IndexRow], stack: &Stack) -> Option<Ahea
     requires within { stack.now.place < length rows.now }
     requires stands { (format : Format) × (trace : Trace) × IsStackAfter format rows.now stack.now trace }
     ensures place { IfSome result (λ read. read.source.place ≡ stack.now.place) }
-    ensures agrees { (format : Format) (trace : Trace) (row : Row) → IsStackAfter format rows.now stack.now trace → slice_get rows.now stack.now.place ≡ Some row
-        → IfSome result (StandsAsRead trace row stack.now.segments) }
+    ensures agrees { (format : Format) → AtNext format rows.now stack.now (λ trace row. IfSome result (StandsAsRead trace row stack.now.segments)) }
     ensures is { (format : Format) (told : Option Content) (dir : List ℕ) → All (IsAhead format told dir rows.now) ahead.old.items → IfSome result (IsAhead format told dir rows.now) }
     ensures left { (format : Format) (told : Option Content) (dir : List ℕ) → All (IsAhead format told dir rows.now) ahead.old.items → All (IsAhead format told dir rows.now) ahead.new.items }
 {
@@ -139,12 +137,10 @@ pub fn walk_next<F: Folder>(
     requires within { stack.old.place < length rows.now }
     requires stands { (trace : Trace) × IsStackAfter format rows.now stack.old trace }
     requires ahead { All (IsAhead format (F.state folder.old).content dir.now rows.now) ahead.old.items }
-    ensures walks { (trace : Trace) (row : Row) → IsStackAfter format rows.now stack.old trace → slice_get rows.now stack.old.place ≡ Some row
-        → OnOk result (WalksTask format (F.state folder.old).content dir.now rows.now stack.new trace row found.old.items found.new.items) }
+    ensures walks { AtNext format rows.now stack.old (λ trace row. OnOk result (WalksTask format (F.state folder.old).content dir.now rows.now stack.new trace row found.old.items found.new.items)) }
     ensures place { OnOk result (stack.new.place ≡ stack.old.place + 1) }
     ensures left { All (IsAhead format (F.state folder.old).content dir.now rows.now) ahead.new.items }
-    ensures refused { (trace : Trace) (row : Row) → IsStackAfter format rows.now stack.old trace → slice_get rows.now stack.old.place ≡ Some row
-        → IfErr result (RefusesNext format (F.state folder.old).content dir.now rows.now trace row) }
+    ensures refused { AtNext format rows.now stack.old (λ trace row. IfErr result (RefusesNext format (F.state folder.old).content dir.now rows.now trace row)) }
     ensures reads { OnlyReads F.Folder folder.old folder.new (IsErrOf result WalkFault.ReadFault) }
 {
     match take(ahead, rows, stack) {

@@ -8,11 +8,37 @@ use stride_overlap::overlap;
 use stride_summary::Run;
 use sw_base::Memory;
 
+/// What an access does to memory.
+#[derive(Clone, Copy)]
+pub struct Effect {
+    /// Whether it changes memory.
+    pub write: bool,
+    /// Whether it reads and changes memory in one step.
+    pub atomic: bool,
+}
+
+/// Whether two accesses with these effects race where they share a byte and nothing orders them: one changes memory, and not both in one step.
+pub fn may_conflict(one: Effect, other: Effect) -> bool
+    ensures { IsTrue result ↔ ((IsTrue one.write ⊎ IsTrue other.write) × (IsTrue one.atomic → IsTrue other.atomic → ⊥)) }
+{
+    (one.write || other.write) && !(one.atomic && other.atomic)
+}
+
+fn effect_of(run: &Run) -> Effect
+    ensures write { result.write ≡ run.now.write }
+    ensures atomic { result.atomic ≡ run.now.atomic }
+{
+    Effect {
+        write: run.write,
+        atomic: run.atomic,
+    }
+}
+
 // Whether one of them writes, and not both are atomic.
-fn may_conflict(a: &Run, b: &Run) -> bool
+fn may_race(a: &Run, b: &Run) -> bool
     ensures { IsTrue result ↔ ((IsTrue a.now.write ⊎ IsTrue b.now.write) × (IsTrue a.now.atomic → IsTrue b.now.atomic → ⊥)) }
 {
-    (a.write || b.write) && !(a.atomic && b.atomic)
+    may_conflict(effect_of(a), effect_of(b))
 }
 
 /// Whether the two runs have a common byte, and no mutex was held at both.
@@ -33,7 +59,7 @@ pub fn add_conflict(a: &Run, b: &Run, pairs: &mut BTreeSet<(u32, u32)>) -> Resul
     ensures added { OnOk result (AddsPairs pairs.old.keys pairs.new.keys (IsRunPair a.now (b.now ∷ []))) }
     ensures refused { OnErr result (AddsSome pairs.old.keys pairs.new.keys (IsRunPair a.now (b.now ∷ []))) }
 {
-    if !may_conflict(a, b) {
+    if !may_race(a, b) {
         return Ok(());
     }
     let lines = lines_of(a, b);

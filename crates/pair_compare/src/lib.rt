@@ -7,7 +7,8 @@
 //! updates no updates. The workers sweep at once, each the runs that meet its ranges of bytes: two runs are compared in the range in
 //! which the later one begins.
 //!
-//! `compare_alone` answers the same pairs without a thread. `add_conflict` adds the line pair of two runs, if they conflict, and `unite` adds one set of pairs to another.
+//! `compare_alone` answers the same pairs without a thread. `may_conflict` says of two effects on memory
+//! whether they can race, `add_conflict` adds the line pair of two runs, if they conflict, and `unite` adds one set of pairs to another.
 //! The law `pairs_are_races` says that the pairs of a run's intervals are its race pairs, region by region of the root, and
 //! `labels_order_accesses` that the labels of two intervals are ordered as their accesses are by happens-before.
 #![tactic(auto)]
@@ -35,7 +36,7 @@ mod worker;
 
 pub use all::compare_all;
 pub use alone::compare_alone;
-pub use conflict::add_conflict;
+pub use conflict::{Effect, add_conflict, may_conflict};
 pub use ordering::labels_order_accesses;
 pub use regions::pairs_are_races;
 pub use team::unite;

@@ -14,7 +14,7 @@ walk_ahead-requires-clause-so g c =
 pub returns-in_err-after-clause-refused : goal.returns-in_err-after-clause-refused
 returns-in_err-after-clause-refused g c =
     let p = err_from_is_err_and c.from_residual-in_err-after.result c.from_residual-in_err-after.ensures.1 in
-    rw (p.1, p.2) (λ bytes opened label old so. c.in_err-after.ensures.refused bytes (g.T.File.rest c.fill.new.file) opened label old
+    rw (p.1, p.2) (λ bytes opened label old so. c.in_err-after.ensures.refused (g.T.File.rest c.fill.new.file) bytes opened label old
     (subst (λ (left : Option (List ℕ)). LogSoFar c.args.format bytes (log_task_of c.args.task.now) opened label c.args.state.now c.args.walk.now left old c.args.found.now.items c.args.before) (search rules) so))
 
 pub returns-then-after-before-clause-refused : goal.returns-then-after-before-clause-refused

@@ -37,7 +37,7 @@ accept-requires-clause-address c =
 
 pub returns-in-Err-clause-refused : goal.returns-in-Err-clause-refused
 returns-in-Err-clause-refused c =
-    let first : IsFirstFault c.args.format c.in-Some.bytes.now c.in-Err.why = rw c.in-Err.is at c.decode_as-read.ensures.fault in λ bytes rest opened label old given.
+    let first : IsFirstFault c.args.format c.in-Some.bytes.now c.in-Err.why = rw c.in-Err.is at c.decode_as-read.ensures.fault in λ rest bytes opened label old given.
     let known = c.records.invariant.so bytes rest opened label old given in
     log_refused bytes rest (log_task_of c.args.task.now) opened label c.records.state c.records.walk c.records.rest.now old c.records.found.items c.records.after (unread c.records.rest.now rest) known refl c.in-Some.bytes.now (fault.Bad (c.records.after + 1) c.rule_of.result) c.records-test.true
     c.in-Some.ensures.cases.0 (omega (arith, c.in-Some.ensures.cases.2)) (refl, inl (record { fault = c.in-Err.why; rule_is = c.rule_of.ensures; first = first }))
@@ -46,7 +46,7 @@ pub returns-in_err-accept-clause-refused : goal.returns-in_err-accept-clause-ref
 returns-in_err-accept-clause-refused c =
     let p = err_from_is_err_and c.from_residual.result c.from_residual.ensures.1 in
     let spells : Spells c.args.format c.in-Some.bytes.now c.in-Ok.next = rw c.in-Ok.is at c.decode_as-read.ensures.found in
-    rw (p.1, p.2) (λ bytes rest opened label old given.
+    rw (p.1, p.2) (λ rest bytes opened label old given.
     let known = c.records.invariant.so bytes rest opened label old given in
     log_refused bytes rest (log_task_of c.args.task.now) opened label c.records.state c.records.walk c.records.rest.now old c.records.found.items c.records.after (unread c.records.rest.now rest) known refl c.in-Some.bytes.now c.in_err-accept.field-0.0 c.records-test.true
     c.in-Some.ensures.cases.0 (omega (arith, c.in-Some.ensures.cases.2)) (c.in_err-accept.ensures.refused c.args.format c.in-Some.bytes.now opened known.records spells known.checks.follows known.after (omega (arith, known.checks.count))))
@@ -95,11 +95,11 @@ records-preserved c =
     }
 
 pub returns-in_default-clause-goes : goal.returns-in_default-clause-goes
-returns-in_default-clause-goes c = λ bytes rest opened label old given.
+returns-in_default-clause-goes c = λ rest bytes opened label old given.
     subst (λ (bs : List ℕ). LogSoFar c.args.format bytes (log_task_of c.args.task.now) opened label c.records.state c.records.walk (unread bs rest) old c.records.found.items c.records.after) c.records.invariant.rest
     (c.records.invariant.so bytes rest opened label old given)
 
 pub returns-clause-goes : goal.returns-clause-goes
-returns-clause-goes c = λ bytes rest opened label old given.
+returns-clause-goes c = λ rest bytes opened label old given.
     subst (λ (bs : List ℕ). LogSoFar c.args.format bytes (log_task_of c.args.task.now) opened label c.records.state c.records.walk (unread bs rest) old c.records.found.items c.records.after) c.records.invariant.rest
     (c.records.invariant.so bytes rest opened label old given)
