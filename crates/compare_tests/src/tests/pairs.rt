@@ -5,7 +5,7 @@ use interval_tree::{Steps, Tree};
 use log_segment::Segment;
 use meeting_gate::MeetingGate;
 use mutex_set::Held;
-use pair_compare::compare_all;
+use pair_compare::{Effect, compare_all, may_conflict};
 use segment_groups::compare;
 use span_label::Label;
 use std::alloc::{AllocError, Global};
@@ -134,6 +134,36 @@ fn lanes_race_where_they_share_a_byte_and_no_mutex(rt: HostRuntime) {
     ];
     for (access, races) in table {
         assert!(rt; races_with(&rt, rt.alloc(), &GUARDED_WRITE, &access).as_slice() == races);
+    }
+}
+
+const READING: Effect = Effect {
+    write: false,
+    atomic: false,
+};
+
+const WRITING: Effect = Effect {
+    write: true,
+    atomic: false,
+};
+
+const UPDATING: Effect = Effect {
+    write: true,
+    atomic: true,
+};
+
+#[test]
+fn effects_conflict_where_one_changes_memory_and_not_both_in_one_step(rt: HostRuntime) {
+    let table = [
+        (READING, READING, false),
+        (READING, WRITING, true),
+        (UPDATING, READING, true),
+        (WRITING, WRITING, true),
+        (WRITING, UPDATING, true),
+        (UPDATING, UPDATING, false),
+    ];
+    for (one, other, conflict) in table {
+        assert!(rt; may_conflict(one, other) == conflict);
     }
 }
 
