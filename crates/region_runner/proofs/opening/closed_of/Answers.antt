@@ -1,11 +1,18 @@
-use Rattle.std.proofs.Common.{rules, ◌≡◌, ◌∙◌, ap, sym, subst, arith, [], ◌∷◌, ◌++◌, length, Ok}
+use Rattle.std.proofs.Common.{rules, ◌≡◌, ◌∙◌, ap, sym, subst, arith, List, [], ◌∷◌, ◌++◌, length, Ok}
 use Rattle.std.proofs.lemmas.List.{length_push, map-id}
 use Rattle.std.proofs.lemmas.Iterator.Adapters.{YieldsList-from_vec}
 use Rattle.std.proofs.lemmas.Iterator.Consumers.{YieldsList-end}
+use Rattle.region_runner.specs.Gathering.{ClosedValue}
 use Rattle.region_runner.specs.Opening.{ClosesAs}
 use Rattle.region_runner.proofs.Pointwise.{push_both}
 use Rattle.region_runner.proofs.opening.closed_of.Goals as goal
 use Rattle.region_runner.proofs.opening.closed_of.Goals.{in-Ok, in-Err}
+
+pub loop-lane-init : goal.loop-lane-init
+loop-lane-init g c = record {
+  count = ap (λ (xs : List ClosedValue). length xs) c.new-lanes.ensures.items;
+  each = λ k d e less. absurd (omega (arith, less));
+}
 
 pub loop-lane-preserved : goal.loop-lane-preserved
 loop-lane-preserved g c =

@@ -25,6 +25,9 @@ loop-log-init g c = record {
   opens = λ task path_is size_is new k d less. absurd (omega (arith, less));
 }
 
+pub child-own-requires : goal.child-own-requires
+child-own-requires g c = c.requires.depth
+
 pub split-draws-requires-clause-hand : goal.split-draws-requires-clause-hand
 split-draws-requires-clause-hand g c =
     subst (λ (h : HandValue Share). Belongs h c.args.chunks.now.table) (sym c.loop-log.invariant.share) (record { here = c.requires.share.here; there = refl })
