@@ -24,10 +24,6 @@ use Rattle.writer_laws.proofs.Ends.{NoEnd, ends_here, ends_later}
 use Rattle.writer_laws.proofs.Numbers.{same_number, number_is, number_not}
 use Rattle.writer_laws.proofs.Forks.{fork_listed, find_fork}
 
-true_or_not : (b : Bool) → (b ≡ true) ⊎ (b ≡ false)
-true_or_not true = inl refl
-true_or_not false = inr refl
-
 both_true : (a b : Bool) → a ≡ true → b ≡ true → (a && b) ≡ true
 both_true a b e f = rw (e, f) refl
 
