@@ -19,7 +19,7 @@ use Rattle.kernel_model.proofs.Growing.{grows-plain, run-grows}
 use Rattle.kernel_model.proofs.Joining.{after-nothing, run_parts-append}
 use Rattle.kernel_model.proofs.Steps.{kept-after}
 use Rattle.shared_words.specs.declared.view.View.{View}
-use Rattle.shared_words.specs.Handles.{HandValue, Belongs, with_view}
+use Rattle.shared_words.specs.Handles.{HandValue, with_view}
 use Rattle.history_model.specs.Work.{Work}
 use Rattle.lane_runner.specs.declared.stop.Stop.TheVariants as stop
 use Rattle.lane_runner.specs.declared.stop.Halt.{Halt}
@@ -177,17 +177,3 @@ module _ (bars : ℕ) (w : WorldValue) (part : State → Outcome (Unit {0})) (sl
 
   pub out_stays : new.hand.view.out ≡ old.hand.view.out
   out_stays = stays (λ v. v.out) (λ word v work. refl) bars w part slots slots' old new r goes
-
--- and it is one of the hands of the words still
-module _ (bars : ℕ) (w : WorldValue) (part : State → Outcome (Unit {0})) (slots slots' : List ℤ) (old new : Progress) (belongs : Belongs old.hand w.words.table) where
-  belongs_by_work : (work : Work) → new.hand ≡ with_view old.hand (worked (element_word w.arrays) old.hand.view work) → Belongs new.hand w.words.table
-  belongs_by_work work is = record { here = ap (λ (h : HandValue View). h.table) is ∙ belongs.here; there = ap (λ (h : HandValue View). h.there) is }
-
-  pub belongs_stays : (r : Result (Unit {0}) Halt) → GoesPast bars w part slots slots' old new r → Belongs new.hand w.words.table
-  belongs_stays (Ok u) m = belongs_by_work m.work m.done.hand
-  belongs_stays (Err (halt.Own (stop.DivZero line))) m = belongs_by_work m.work m.done.hand
-  belongs_stays (Err (halt.Own (stop.Index line))) m = belongs_by_work m.work m.done.hand
-  belongs_stays (Err (halt.Own (stop.LogFull line))) m = belongs_by_work m.work m.done.hand
-  belongs_stays (Err (halt.Region path why)) m = belongs_by_work m.work m.done.hand
-  belongs_stays (Err (halt.Own (stop.Tasks line))) m = belongs_by_work m.work m.done.hand
-  belongs_stays (Err (halt.Own (stop.Trouble trouble))) (m, refused) = belongs_by_work m.work m.done.hand

@@ -1,5 +1,5 @@
 -- Statements, by what their parts do.
-use Rattle.std.proofs.Common.{Bool, ◌≡◌, ◌∷◌, refl, ap, sym, ◌∙◌, subst, ℕ, ◌+◌, ◌<◌, List, ℤ, pos, ◌+ℤ◌, length, take, drop, get_or, Result, Ok, Err, w64, to_z, of_z, rules, arith}
+use Rattle.std.proofs.Common.{Bool, ◌≡◌, refl, ap, sym, ◌∙◌, subst, ℕ, ◌+◌, ◌<◌, List, ℤ, pos, ◌+ℤ◌, length, take, drop, get_or, Result, Ok, Err, w64, to_z, of_z, rules, arith}
 use Rattle.std.specs.Prelude.{slice_set}
 use Rattle.std.proofs.lemmas.Result.{err_from_is_err_and}
 use Rattle.std.proofs.lemmas.Option.{slice_get_read}
@@ -23,14 +23,13 @@ use Rattle.kernel_model.specs.Drawing.{turn_from}
 use Rattle.lane_runner.specs.declared.stop.Halt.TheVariants as halt
 use Rattle.lane_runner.specs.Alone.{IsAlone}
 use Rattle.task_place.specs.declared.locals.Locals.{Locals}
-use Rattle.lane_runner.specs.Going.{Goes, IsSameLog, IsWonLast, Made, site}
+use Rattle.lane_runner.specs.Going.{Goes, Made, site}
 use Rattle.lane_runner.proofs.Running.{made_done, goes_assigned}
 use Rattle.kernel_model.proofs.StmtLists.{split_at, grown}
 use Rattle.lane_runner.proofs.Bodies.{log_still, log_later, test_stops, else_goes, then_goes, from_stops, to_stops, loop_goes, turns_none, turns_next, turns_stop, statements_next, statements_stop}
 use Rattle.lane_runner.proofs.Ongoing.{executes_as, executes_at, executes_else, executes_later, executes_then, executes_turn}
 use Rattle.lane_runner.proofs.Teams.{team_of_region, teams_later}
 use Rattle.lane_runner.proofs.Parting.{alone_only}
-use Rattle.lane_runner.proofs.Phases.{belongs_stays, held_stays}
 use Rattle.log_format.specs.declared.record.Kind.TheVariants as kind
 use Rattle.kernel_model.specs.State.{State, after, put, event}
 use Rattle.kernel_model.proofs.Growing.{run-grows}
@@ -41,8 +40,7 @@ use Rattle.lane_runner.proofs.Stepping.{goes_unready}
 use Rattle.lane_runner.proofs.Running.{after_stop, after_goes}
 use Rattle.lane_runner.proofs.Sections.{section_rest, unlocking, unlocking_grows, full_at_unlock, can_taken, section_left, section_ends}
 use Rattle.lane_runner.proofs.Values.{can_follow}
-use Rattle.shared_words.specs.Views.{locked, rest}
-use Rattle.lane_runner.specs.World.{WorldValue}
+use Rattle.shared_words.specs.Views.{locked}
 use Rattle.lane_runner.proofs.frame.Frame.+executing.Goals as goal
 
 -- the code of a statement of each kind
@@ -334,48 +332,3 @@ critical-statements-requires-clause-executes g t c κs within = record {
   alone = subst (λ (held : List ℕ). IsAlone c.args.world.now.words.locks held (code_of c.args.body.now.stmts.items)) (sym (ap (λ (h : HandValue View). h.view.held) c.in_ok-lock.ensures.takes.hand)) c.requires.executes.alone.2;
   runs = teams_later _ _ _ _ _ _ c.in_ok-lock.ensures.log (code_of c.args.body.now.stmts.items) c.requires.executes.runs.0;
 }
-
--- ---- the mutex that was won last, and the log
-
--- what is held once a section's statements have ended or stopped
-won_last : (w : WorldValue) (mutex : ℕ) (held : List ℕ) (v : View) → mutex < w.words.locks → v.held ≡ mutex ∷ held → IsWonLast w v mutex
-won_last w mutex held v within is = record { within = within; last = is ∙ ap (λ (l : List ℕ). mutex ∷ rest l) (sym is) }
-
-pub critical-release-requires-clause-belongs : goal.critical-release-requires-clause-belongs
-critical-release-requires-clause-belongs g t c κs given = belongs_stays 0 _ _ _ _ _ _ c.in_ok-lock.ensures.can.belongs _ c.statements.ensures.goes
-
-pub critical-release-requires-clause-innermost : goal.critical-release-requires-clause-innermost
-critical-release-requires-clause-innermost g t c κs given =
-    won_last _ _ _ _ c.requires.executes.alone.0 (held_stays 0 _ _ _ _ _ _ _ c.statements.ensures.goes ∙ ap (λ (h : HandValue View). h.view.held) c.in_ok-lock.ensures.takes.hand)
-
-pub critical-unlock-requires-clause-innermost : goal.critical-unlock-requires-clause-innermost
-critical-unlock-requires-clause-innermost g t c κs given =
-    won_last _ _ _ _ c.requires.executes.alone.0 (held_stays 0 _ _ _ _ _ _ _ c.statements.ensures.goes ∙ ap (λ (h : HandValue View). h.view.held) c.in_ok-lock.ensures.takes.hand)
-
-pub critical-returns-in-Err-clause-log : goal.critical-returns-in-Err-clause-log
-critical-returns-in-Err-clause-log g t c = subst (IsSameLog c.args.self.now.track.buffer) (sym c.release.ensures.log) (log_later _ _ _ c.in_ok-lock.ensures.log c.statements.ensures.log)
-
-pub critical-returns-in-Err-unlock-clause-log : goal.critical-returns-in-Err-unlock-clause-log
-critical-returns-in-Err-unlock-clause-log g t c =
-    subst (IsSameLog c.args.self.now.track.buffer) (sym c.release-in-Err-unlock.ensures.log) (log_later _ _ _ (log_later _ _ _ c.in_ok-lock.ensures.log c.statements.ensures.log) c.unlock.ensures.log)
-
-pub critical-returns-clause-log : goal.critical-returns-clause-log
-critical-returns-clause-log g t c = log_later _ _ _ (log_later _ _ _ c.in_ok-lock.ensures.log c.statements.ensures.log) c.unlock.ensures.log
-
-pub repeat-returns-in_err-statements-clause-log : goal.repeat-returns-in_err-statements-clause-log
-repeat-returns-in_err-statements-clause-log g t c = log_later _ _ _ c.loop-i.invariant.log c.statements.ensures.log
-
-pub statements-returns-in_err-statement-clause-log : goal.statements-returns-in_err-statement-clause-log
-statements-returns-in_err-statement-clause-log g t c = log_later _ _ _ c.loop-stmt.invariant.log c.statement.ensures.log
-
-pub statement-returns-in_err-last-in-Loop-clause-log : goal.statement-returns-in_err-last-in-Loop-clause-log
-statement-returns-in_err-last-in-Loop-clause-log g t c = log_later _ _ _ c.value-in-Loop.ensures.log c.value-in-Loop-2.ensures.log
-
-pub statement-returns-then-chosen-eq0-clause-log : goal.statement-returns-then-chosen-eq0-clause-log
-statement-returns-then-chosen-eq0-clause-log g t c = log_later _ _ _ c.value.ensures.log c.statements.ensures.log
-
-pub statement-returns-else-chosen-eq0-clause-log : goal.statement-returns-else-chosen-eq0-clause-log
-statement-returns-else-chosen-eq0-clause-log g t c = log_later _ _ _ c.value.ensures.log c.statements-else-chosen-eq0.ensures.log
-
-pub statement-returns-in_ok-last-in-Loop-clause-log : goal.statement-returns-in_ok-last-in-Loop-clause-log
-statement-returns-in_ok-last-in-Loop-clause-log g t c = log_later _ _ _ (log_later _ _ _ c.value-in-Loop.ensures.log c.value-in-Loop-2.ensures.log) c.repeat.ensures.log

@@ -7,7 +7,6 @@ use Rattle.kernel_model.specs.Trace.{changed}
 use Rattle.kernel_model.specs.Value.{element_at}
 use Rattle.lane_runner.specs.declared.stop.Halt.TheVariants as halt
 use Rattle.lane_runner.specs.Going.{Goes, site}
-use Rattle.lane_runner.proofs.Bodies.{log_later}
 use Rattle.lane_runner.proofs.Running.{index_stops, value_stops, change_goes}
 use Rattle.lane_runner.proofs.Values.{can_follow}
 use Rattle.lane_runner.proofs.frame.Frame.change.Goals as goal
@@ -40,9 +39,3 @@ value-requires-2-clause-can g c κs given = can_follow _ _ _ _ _ _ _ c.requires.
 
 pub put_value-requires-clause-can : goal.put_value-requires-clause-can
 put_value-requires-clause-can g c κs given = can_follow _ _ _ _ _ _ _ (can_follow _ _ _ _ _ _ _ c.requires.can c.in_ok-at.ensures.goes) c.in_ok-number.ensures.goes
-
-pub returns-in_err-number-clause-log : goal.returns-in_err-number-clause-log
-returns-in_err-number-clause-log g c = log_later _ _ _ c.value.ensures.log c.value-2.ensures.log
-
-pub returns-clause-log : goal.returns-clause-log
-returns-clause-log g c = log_later _ _ _ (log_later _ _ _ c.value.ensures.log c.value-2.ensures.log) c.put_value.ensures.log

@@ -77,6 +77,3 @@ returns-clause-goes g c =
     subst (λ (z : ℤ). Made c.args.world.now (each (static_iterations c.args.chunk c.args.total c.args.world.now.lane c.args.world.now.span) (turn_from (site c.args.world.now) (code_of c.args.body.now.stmts.items) c.args.slot z)) c.args.self.now.locals.slots.items c.chunks.self.locals.slots.items c.args.self.now.track c.chunks.self.track (Returned tt)) (to_z-of_z w64 c.args.from c.ranges.from)
     (chunks_all c.args.world.now (site c.args.world.now) (code_of c.args.body.now.stmts.items) c.args.slot (to_z w64 (of_z w64 c.args.from)) c.args.chunk c.args.total c.requires.some within c.chunks.first c.args.self.now.locals.slots.items c.chunks.self.locals.slots.items c.args.self.now.locals.slots.items
     c.args.self.now.track c.chunks.self.track c.args.self.now.track c.chunks.invariant.made c.chunks-test.false)
-
-pub returns-in_err-repeat-clause-log : goal.returns-in_err-repeat-clause-log
-returns-in_err-repeat-clause-log g c = log_later _ _ _ c.chunks.invariant.log c.repeat.ensures.log

@@ -7,7 +7,6 @@ use Rattle.kernel_model.specs.Trace.{draw, turns}
 use Rattle.kernel_model.specs.Effect.{Returned}
 use Rattle.kernel_model.specs.Drawing.{turn_from}
 use Rattle.lane_runner.specs.Going.{Goes, Made, site}
-use Rattle.lane_runner.proofs.Bodies.{log_later}
 use Rattle.lane_runner.proofs.Values.{can_follow}
 use Rattle.kernel_model.proofs.Turns.{below_top, chunk_begins}
 use Rattle.lane_runner.proofs.Chunking.{draw_stops, none_left, chunk_stops, chunk_ends}
@@ -99,9 +98,3 @@ returns-clause-count g c =
     let count = c.in_ok-number.ensures.count in
     let more = c.in_ok-repeat.ensures.goes.done.log.count in
     omega (arith, count, more)
-
-pub returns-in_err-repeat-clause-log : goal.returns-in_err-repeat-clause-log
-returns-in_err-repeat-clause-log g c = log_later _ _ _ c.draw.ensures.log c.repeat.ensures.log
-
-pub returns-clause-log : goal.returns-clause-log
-returns-clause-log g c = log_later _ _ _ c.draw.ensures.log c.repeat.ensures.log

@@ -62,6 +62,3 @@ drawn_chunk-requires-clause-executes g c κs given = record {
   alone = subst (λ (held : List ℕ). IsAlone c.args.world.now.words.locks held (code_of c.args.body.now.stmts.items)) (sym c.draws.invariant.held) c.requires.executes.alone;
   runs = teams_later _ _ _ _ _ _ c.draws.invariant.log (code_of c.args.body.now.stmts.items) c.requires.executes.runs;
 }
-
-pub returns-in_err-drawn_chunk-clause-log : goal.returns-in_err-drawn_chunk-clause-log
-returns-in_err-drawn_chunk-clause-log g c = log_later _ _ _ c.draws.invariant.log c.drawn_chunk.ensures.log

@@ -7,7 +7,6 @@ use Rattle.kernel_model.specs.Trace.{shared}
 use Rattle.kernel_model.specs.Drawing.{turn_from}
 use Rattle.lane_runner.specs.declared.stop.Halt.TheVariants as halt
 use Rattle.lane_runner.specs.Going.{Goes, site}
-use Rattle.lane_runner.proofs.Bodies.{log_later}
 use Rattle.lane_runner.proofs.Dealing.{for_first_stops, for_last_stops, for_goes}
 use Rattle.lane_runner.proofs.Values.{can_follow}
 use Rattle.lane_runner.proofs.Ongoing.{executes_later}
@@ -41,9 +40,3 @@ pub share-requires-clause-executes : goal.share-requires-clause-executes
 share-requires-clause-executes g c κs given =
     executes_later c.in_ok-last.ensures.goes c.in_ok-last.ensures.log
     (executes_later c.in_ok-first.ensures.goes c.in_ok-first.ensures.log (record { can = c.requires.can; bounded = c.requires.bounded.5; alone = c.requires.alone; runs = c.requires.runs }))
-
-pub returns-in_err-last-clause-log : goal.returns-in_err-last-clause-log
-returns-in_err-last-clause-log g c = log_later _ _ _ c.value.ensures.log c.value-2.ensures.log
-
-pub returns-clause-log : goal.returns-clause-log
-returns-clause-log g c = log_later _ _ _ (log_later _ _ _ c.value.ensures.log c.value-2.ensures.log) c.share.ensures.log
