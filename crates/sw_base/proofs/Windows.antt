@@ -32,10 +32,6 @@ module _ (place : ℕ) (bytes file : List ℕ) (shows : bytes ≡ take (length b
       ∙ ap (λ (xs : List ℕ). kept ++ xs) (take-append-le n chunk past fits) ∙ ap (λ (xs : List ℕ). xs ++ take n chunk) is))
       (shows_more chunk n reads)
 
-  -- so many bytes are there
-  pub shows_enough : (count : ℕ) → count ≤ length bytes → take count bytes ≡ take count (drop place file)
-  shows_enough count enough = ap (λ (bs : List ℕ). take count bs) shows ∙ take-take count (length bytes) (drop place file) enough
-
 -- bytes were passed
 pub shows_skipped : (window : Window) (file : List ℕ) (count : ℕ) → count ≤ length window.ahead → Shows window file → Shows (skipped count window) file
 shows_skipped window file count there shows =

@@ -104,15 +104,6 @@ bounded_left (Binary op line left right) (suc n) b = bounded_left left n b.1
 
 -- ---- sizes
 
-pub size_some : (e : Term) → 1 ≤ term_size e
-size_some (Number x) = omega arith
-size_some (Slot x) = omega arith
-size_some Tid = omega arith
-size_some Span = omega arith
-size_some (Load array index line site) = omega arith
-size_some (Neg operand) = omega arith
-size_some (Binary op line left right) = omega arith
-
 -- each level has some of it
 pub size_levels : (e : Term) (n : ℕ) → n ≤ size_above e n
 size_levels (Number x) n = omega arith
