@@ -9,13 +9,12 @@ use Rattle.log_format.specs.Fitting.{IsWidth, fitted}
 use Rattle.kernel_model.specs.State.{State, Outcome, Gives, Stops, Wants, after, put, put_in, event, state_of, to_bits, from_bits}
 use Rattle.kernel_model.specs.Value.{access}
 use Rattle.kernel_model.specs.Trace.{run, task, Start, site_of, state_at, Ending, Wanting, ending_of}
-use Rattle.kernel_model.proofs.Growing.{grows-plain}
+use Rattle.kernel_model.proofs.Growing.{grows-plain, grows-put}
 use Rattle.kernel_model.specs.Growth.{Grows}
 use Rattle.kernel_model.proofs.Steps.{kept-after}
 use Rattle.certainty_model.specs.Certain.{IsFixed}
 use Rattle.certainty_model.proofs.Pairs.{FixedFork, Own, with, Parting, Pair}
 use Rattle.certainty_model.proofs.FixedRuns.{run-pairs}
-use Rattle.serial_laws.proofs.Growing.{put_grows}
 
 -- both read one element, and its values differ
 pub record ReadApart (r q : Record) : Type 0 where
@@ -78,7 +77,7 @@ module _ (line : ℕ) where
   finish m = after m (put last)
 
   finish_grows : (m : Outcome (Unit {0})) → Grows (state_of m) (state_of (finish m))
-  finish_grows m = kept-after Grows grows-plain (state_of m) m (put last) (grows-plain.same (state_of m)) (λ t. put_grows last t refl)
+  finish_grows m = kept-after Grows grows-plain (state_of m) m (put last) (grows-plain.same (state_of m)) (λ t. grows-put last t refl)
 
   abbrev Alike : Outcome (Unit {0}) → Outcome (Unit {0}) → Type 0
   Alike m o = GoAlike (ending_of m) (ending_of o) (state_of m).records (state_of o).records

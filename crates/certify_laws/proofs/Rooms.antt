@@ -19,12 +19,11 @@ use Rattle.kernel_model.specs.declared.stop.StopWhy.{StopWhy}
 use Rattle.kernel_model.specs.declared.stop.StopWhy.TheVariants.{LogFull, DivZero, Index}
 use Rattle.kernel_model.specs.Trace.{amount_of, branch, changed, turns, each, drawn, draw, draw_in, draws, shared, loop_end, forked, run}
 use Rattle.kernel_model.specs.Value.{Site, Element, element_at, access, read, read_in, loaded, operated, value}
-use Rattle.kernel_model.proofs.Growing.{grows-plain, run-grows}
+use Rattle.kernel_model.proofs.Growing.{grows-plain, grows-put, run-grows}
 use Rattle.kernel_model.proofs.Steps.{Part, kept-and_then, kept-draws, kept-drawn, kept-loaded}
 use Rattle.serial_run.specs.declared.frame.Frame.{Frame}
 use Rattle.serial_run.specs.declared.frame.Frame.TheVariants as frame
 use Rattle.serial_run.specs.Resting.{dealt_from, frame_part, frames_rest}
-use Rattle.serial_laws.proofs.Growing.{put_grows}
 
 -- the state with this room
 abbrev pub roomy : ℕ → State → State
@@ -111,7 +110,7 @@ rooms-put_in (suc k) (suc l) r c less = Rooms.gives tt (record c { records = c.r
 
 pub put-roomy : (r : Record) → is_region_kind r.kind ≡ false → Roomy (put r)
 unfolding put
-put-roomy r plain = record { grows = λ s. put_grows r s plain; rooms = λ c k l less. rooms-put_in k l r c less }
+put-roomy r plain = record { grows = λ s. grows-put r s plain; rooms = λ c k l less. rooms-put_in k l r c less }
 
 rooms-read_in : (k l : ℕ) (reads : List ℤ) (e : Element) (site line : ℕ) (c : State) → k < l → Rooms (read_in k reads e site line (roomy k c)) (read_in l reads e site line (roomy l c))
 rooms-read_in zero zero reads e site line c less = absurd (omega (arith, less))

@@ -133,7 +133,7 @@ ended_in_work layout (Fork line span phases more) (suc i) event sound all found 
     }
 
 -- as many regions as records of them
-count_regions : (layout : WordLayout) (work : Work) → IsSound layout work → region_count (work_records work) ≡ length (work_regions work)
+pub count_regions : (layout : WordLayout) (work : Work) → IsSound layout work → region_count (work_records work) ≡ length (work_regions work)
 count_regions layout Rest sound = refl
 count_regions layout (Put r more) sound =
     let none : region_count (r ∷ []) ≡ 0 = ap (λ (b : Bool). 0 + cond b 1 0) (other_kind r.kind sound.0.no_region) in

@@ -8,12 +8,12 @@ use Rattle.log_format.specs.declared.record.Kind.{Kind}
 use Rattle.log_format.specs.declared.record.Kind.TheVariants as kind
 use Rattle.race_model.specs.Trace.{is_region_kind}
 use Rattle.race_model.proofs.Counted.{regions_both}
-use Rattle.kernel_model.specs.State.{State, state_of, event, after}
+use Rattle.kernel_model.specs.State.{State, state_of, event, put, after}
 use Rattle.kernel_model.specs.Value.{Site, value}
 use Rattle.kernel_model.specs.Trace.{run, task, Start, state_at, branch}
 use Rattle.kernel_model.specs.Growth.{Grows}
 use Rattle.kernel_model.proofs.SingleSteps.{IsMark, KeepsPlainSteps, KeepsUpdates, KeepsBarriers, KeepsEnds, KeepsSteps}
-use Rattle.kernel_model.proofs.Steps.{kept-value, kept-run, kept-task, kept-after, kept-branch}
+use Rattle.kernel_model.proofs.Steps.{kept-value, kept-run, kept-task, kept-after, kept-branch, kept-put}
 
 -- a record that is no Region
 plain_count : (b : Bool) → b ≡ false → 0 ≡ 0 + cond b 1 0
@@ -93,6 +93,10 @@ grows-steps = record {
     fork_count = refl;
   };
 }
+
+-- a record that is no Region, where there is room for it
+pub grows-put : (r : Record) (s : State) → is_region_kind r.kind ≡ false → Grows s (state_of (put r s))
+grows-put r s plain = kept-put Grows grows-plain r s (λ room is. grows-record r room s _ is plain refl refl refl)
 
 pub value-grows : (at : Site) (e : Term) (s : State) → Grows s (state_of (value at e s))
 value-grows = kept-value Grows grows-plain

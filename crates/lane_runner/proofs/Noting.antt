@@ -5,13 +5,11 @@ use Rattle.std.proofs.lemmas.List.{append-nil}
 use Rattle.log_format.specs.Limit.{record_limit}
 use Rattle.log_format.specs.declared.record.Record.{Record}
 use Rattle.log_format.specs.declared.record.Kind.TheVariants as kind
-use Rattle.kernel_model.specs.State.{State, Outcome, put, event, state_of, number_drawn, value_read}
-use Rattle.kernel_model.specs.Growth.{Grows}
+use Rattle.kernel_model.specs.State.{State, Outcome, put, event, number_drawn, value_read}
 use Rattle.kernel_model.specs.Effect.{Returned, Makes, adds}
 use Rattle.kernel_model.proofs.Effects.{makes-put, makes-put_full}
-use Rattle.kernel_model.proofs.Growing.{grows-plain}
-use Rattle.kernel_model.proofs.Steps.{kept-put}
-use Rattle.race_model.specs.Trace.{barrier_count, is_region_kind, region_count}
+use Rattle.kernel_model.proofs.Growing.{grows-put}
+use Rattle.race_model.specs.Trace.{barrier_count, is_region_kind}
 use Rattle.race_model.specs.Race.{held_after, held_after_kind}
 use Rattle.shared_words.specs.Handles.{with_view}
 use Rattle.history_model.specs.Work.{Rest, Put, logged}
@@ -80,16 +78,6 @@ end_note w line some = record {
   holds = λ held. refl;
 }
 
-pub note_grows : (r : Record) (s : State) → is_region_kind r.kind ≡ false → Grows s (state_of (put r s))
-note_grows r s plain = kept-put Grows grows-plain r s (λ room is. record {
-  added = r ∷ [];
-  records_are = refl;
-  room_is = omega (arith, is);
-  regions = [];
-  forks_are = sym (append-nil s.forks);
-  fork_count = (let none : region_count (r ∷ []) ≡ 0 = rw plain refl in sym none);
-})
-
 module _ (w : WorldValue) (event : Record) (bars : ℕ) (note : IsNote w event bars) (slots : List ℤ) (old new : Progress) where
   note_done : PutsRecord event old.hand.view old new → HasDonePast bars w old new (Put event Rest)
   note_done taken = record {
@@ -133,7 +121,7 @@ module _ (w : WorldValue) (event : Record) (bars : ℕ) (note : IsNote w event b
   note_goes (Ok u) can taken = (note_made taken).0
   note_goes (Err why) can room =
       past_stop 0 bars w (put event) slots slots old new why
-      (goes_unready w (put event) slots event.line (λ s. note_grows event s note.region) (makes-put_full event slots) old new why can room)
+      (goes_unready w (put event) slots event.line (λ s. grows-put event s note.region) (makes-put_full event slots) old new why can room)
 
   pub note_can : (r : Result (Unit {0}) Halt) → CanGo w old → TakesOrHalts event old.hand.view old new r → OnOk r (CanGo w new)
   note_can (Ok u) can taken = can_past bars w (put event) slots slots old new (Returned tt) can (note_made taken).0

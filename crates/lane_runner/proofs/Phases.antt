@@ -15,7 +15,7 @@ use Rattle.kernel_model.specs.Parts.{Part, Set, Run, Bar, run_part, run_parts, i
 use Rattle.kernel_model.specs.Phases.{part_of, EndsInBar, IsNoBar}
 use Rattle.kernel_model.specs.Effect.{Returned}
 use Rattle.kernel_model.proofs.Effects.{makes-stays}
-use Rattle.kernel_model.proofs.Growing.{grows-plain, run-grows}
+use Rattle.kernel_model.proofs.Growing.{grows-plain, grows-put, run-grows}
 use Rattle.kernel_model.proofs.Joining.{after-nothing, run_parts-append}
 use Rattle.kernel_model.proofs.Steps.{kept-after}
 use Rattle.shared_words.specs.declared.view.View.{View}
@@ -31,14 +31,14 @@ use Rattle.lane_runner.proofs.Following.{past_same, goes_same}
 use Rattle.lane_runner.proofs.Running.{after_past, after_goes, after_stop}
 use Rattle.lane_runner.specs.Phase.{IsItem, IsPhase}
 use Rattle.lane_runner.proofs.Values.{can_follow, made_still}
-use Rattle.lane_runner.proofs.Noting.{note_grows, past_stop}
+use Rattle.lane_runner.proofs.Noting.{past_stop}
 
 -- ---- what parts mean, one after another
 
 part_grows : (at : Site) (part : Part) (s : State) → Grows s (state_of (run_part at part s))
 part_grows at (Set slot value) s = grows-plain.assigns slot value s
 part_grows at (Run code) s = run-grows at code s
-part_grows at (Bar line) s = note_grows (event kind.Barrier line 0 0) s refl
+part_grows at (Bar line) s = grows-put (event kind.Barrier line 0 0) s refl
 
 pub parts_grow : (at : Site) (parts : List Part) (s : State) → Grows s (state_of (run_parts at parts s))
 parts_grow at [] s = grows-plain.same s

@@ -22,7 +22,7 @@ use Rattle.lane_runner.specs.Lane.{Executed, LaneValue, PutsEnd, answer_due, hal
 use Rattle.lane_runner.specs.World.{WorldValue}
 use Rattle.lane_runner.proofs.Bodies.{log_later}
 use Rattle.lane_runner.proofs.Halting.{halt_none, stopped_none}
-use Rattle.lane_runner.proofs.Noting.{end_note, note_can, note_made, note_goes, note_grows, past_stop}
+use Rattle.lane_runner.proofs.Noting.{end_note, note_can, note_made, note_goes, past_stop}
 use Rattle.lane_runner.proofs.Running.{after_made, after_past, after_stop}
 use Rattle.lane_runner.proofs.Values.{can_past}
 use Rattle.lane_runner.proofs.Working.{hand_still}
@@ -35,7 +35,7 @@ module _ (w : WorldValue) (items : List Item) (slots slots' : List ℤ) (old mid
   phase_stops None why goes = goes
   phase_stops (Some line) why goes =
       past_stop 0 (bar_count (map part_of items)) w (phase_part items (Some line) (site w)) slots slots' old new why
-      (after_stop w (run_parts (site w) (map part_of items)) (put (event kind.End line 0 0)) slots slots' old new why (λ s. note_grows (event kind.End line 0 0) s refl)
+      (after_stop w (run_parts (site w) (map part_of items)) (put (event kind.End line 0 0)) slots slots' old new why (λ s. grows-put (event kind.End line 0 0) s refl)
       (past_stop (bar_count (map part_of items)) 0 w (run_parts (site w) (map part_of items)) slots slots' old new why goes))
 
   module _ (line : ℕ) (last : IsLast items line) (can : CanGo w old) (made : MadePast (bar_count (map part_of items)) w (run_parts (site w) (map part_of items)) slots slots' old mid (Returned tt)) where

@@ -12,7 +12,7 @@ use Rattle.kernel_model.specs.Trace.{Start, run, site_of}
 use Rattle.kernel_model.specs.declared.phase.Item.{Item}
 use Rattle.kernel_model.specs.Parts.{Part, run_parts}
 use Rattle.kernel_model.specs.Phases.{part_of, items_in, parts_in}
-use Rattle.kernel_model.proofs.Growing.{grows-plain}
+use Rattle.kernel_model.proofs.Growing.{grows-plain, grows-put}
 use Rattle.kernel_model.proofs.Joining.{after-after, run_parts-append}
 use Rattle.kernel_model.proofs.RunEffects.{parts}
 use Rattle.kernel_model.proofs.Steps.{kept-after}
@@ -21,7 +21,6 @@ use Rattle.execution_model.specs.Runs.{RunsTask, lane_begin}
 use Rattle.lane_runner.specs.declared.stop.Halt.{Halt}
 use Rattle.lane_runner.specs.Going.{Progress, site}
 use Rattle.lane_runner.specs.World.{WorldValue}
-use Rattle.lane_runner.proofs.Noting.{note_grows}
 use Rattle.lane_runner.proofs.Phases.{parts_grow}
 use Rattle.region_runner.specs.Ran.{task_part, TaskGoes}
 use Rattle.region_runner.proofs.Traced.{runs_goes}
@@ -37,7 +36,7 @@ left_of at end left s = after (run_parts at (parts_in left) s) (put (event kind.
 pub left_grows : (at : Site) (end : ℕ) (left : List (List Item)) (s : State) → Grows s (state_of (left_of at end left s))
 left_grows at end left s =
     kept-after Grows grows-plain s (run_parts at (parts_in left) s) (put (event kind.End end 0 0)) (parts_grow at (parts_in left) s)
-    (λ t. note_grows (event kind.End end 0 0) t refl)
+    (λ t. grows-put (event kind.End end 0 0) t refl)
 
 module _ (program : Program) (start : Start) (phases : List (List Item)) (runs : (at : Site) (s : State) → run_parts at (parts_in phases) s ≡ run at start.team.body s) where
   -- a task is its first phases, and what is left

@@ -24,9 +24,10 @@ use Rattle.execution_model.specs.Runs.{RunsTask, RunsRegions, lane_begin}
 use Rattle.serial_run.proofs.Coming.{stop_as_told}
 use Rattle.serial_run.proofs.Leading.{leads_none, leads_then}
 use Rattle.serial_run.specs.Coming.{IsAtStart, Comes}
-use Rattle.serial_run.specs.Going.{SerialProgress, room_of}
-use Rattle.serial_run.specs.Placing.{Bound, OfLog, OfRun, ElementLayout}
+use Rattle.serial_run.specs.Going.{room_of}
+use Rattle.serial_run.specs.Placing.{OfLog, ElementLayout}
 use Rattle.serial_run.specs.Stepping.{Stand, Advances, Leads, stand_left}
+use Rattle.serial_run.proofs.Coming.{room_log}
 use Rattle.serial_team.proofs.Going.{team_at}
 use Rattle.serial_team.specs.declared.member.Stage.TheVariants as stage
 use Rattle.serial_team.specs.Members.{Pool, pool_at, MemberValue, later, path_in, BeginTeam}
@@ -38,11 +39,6 @@ use Rattle.serial_laws.proofs.Puts.{put_records_are, put_regions}
 use Rattle.serial_laws.proofs.Undrawn.{IsUndrawn, undrawn_both, plain_undrawn}
 use Rattle.serial_laws.proofs.WholeTasks.{put_lines, regions_put_both, task_put}
 use Rattle.serial_laws.proofs.Traced.{Goes, RunAll, Runs, StandsSo, all_left, all_right, begun_arrays, fork_at, lane_at_start, lane_goes, phases_ended, phases_go, records_are, region_lanes, region_runs, regions_both, team_goes, team_length, whole, whole_records, whole_regions}
-
--- the room that its log has, whatever others make
-room_log : (bound : Bound) (p : SerialProgress) → bound ≡ OfLog → room_of bound p ≡ record_limit - p.count
-room_log OfLog p is = refl
-room_log OfRun p is = absurd cc
 
 module _ (layout : ElementLayout) (by_log : layout.bound ≡ OfLog) (program : Program) where
   -- ---- where a task stands still

@@ -16,7 +16,7 @@ use Rattle.serial_run.proofs.Leading.{leads_none, leads_then}
 use Rattle.serial_run.specs.Placing.{Bound, OfLog, OfRun, ElementLayout}
 
 -- the room that its log has, whatever others make
-room_log : (bound : Bound) (p : SerialProgress) → bound ≡ OfLog → room_of bound p ≡ record_limit - p.count
+pub room_log : (bound : Bound) (p : SerialProgress) → bound ≡ OfLog → room_of bound p ≡ record_limit - p.count
 room_log OfLog p is = refl
 room_log OfRun p is = absurd cc
 

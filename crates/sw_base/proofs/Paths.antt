@@ -15,7 +15,7 @@ pub step_cmp-equal : (one other : Step) → step_cmp one other ≡ Equal → one
 step_cmp-equal one other same = grind (arith, nat_tests)
 
 -- where two answers in turn are equal, each is
-both_equal : (first second : Ordering) → ordering_then first second ≡ Equal → (first ≡ Equal) × (second ≡ Equal)
+pub both_equal : (first second : Ordering) → ordering_then first second ≡ Equal → (first ≡ Equal) × (second ≡ Equal)
 both_equal Less second same = absurd (cc)
 both_equal Equal second same = (refl, same)
 both_equal Greater second same = absurd (cc)
