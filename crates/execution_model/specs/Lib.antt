@@ -1,3 +1,4 @@
 pub mod Execution
 pub mod Runs
 pub mod Elements
+pub mod Stops

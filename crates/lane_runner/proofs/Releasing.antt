@@ -9,7 +9,7 @@ use Rattle.race_model.specs.History.{release}
 use Rattle.history_model.specs.Work.{Work, Rest, RegionWork, work_records, work_regions, then_work}
 use Rattle.history_model.proofs.Parts.{then_records, then_regions}
 use Rattle.lane_runner.specs.Going.{log_of, HasReleased, Cause, AtLog, AtRegion, AtTasks, EndsBy}
-use Rattle.lane_runner.specs.Stopping.{LastIsRegion}
+use Rattle.execution_model.specs.Stops.{LastIsRegion}
 use Rattle.lane_runner.proofs.Working.{log_then}
 
 pub released_none : (before : List ℕ) → HasReleased before Rest []

@@ -32,7 +32,8 @@ use Rattle.lane_runner.specs.declared.stop.Halt.TheVariants as halt
 use Rattle.lane_runner.specs.declared.stop.Stop.TheVariants as stop
 use Rattle.lane_runner.specs.Drawing.{Tally, HasDrawn}
 use Rattle.lane_runner.specs.Handed.{HandedEntry, HandsOn, MaybeStop, AreFew, log_place}
-use Rattle.lane_runner.specs.Stopping.{HaveEnded, LastIsRegion, LastIsRegionAt, StopsAtLast}
+use Rattle.lane_runner.specs.Stopping.{HaveEnded, StopsAtLast}
+use Rattle.execution_model.specs.Stops.{LastIsRegion, LastIsRegionAt}
 use Rattle.execution_model.specs.Elements.{element_word, layout_of}
 use Rattle.lane_runner.specs.World.{WorldValue}
 

@@ -2,7 +2,6 @@
 use Rattle.std.specs.Prelude.{◌≡◌, ◌⊎◌, ℕ, ◌+◌, ◌<◌, List, [], ◌∷◌, ◌++◌, length, All, Option, Some, None, slice_get}
 use Rattle.sw_base.specs.declared.path.Step.{Step}
 use Rattle.log_format.specs.declared.record.Record.{Record}
-use Rattle.log_format.specs.declared.record.Kind.TheVariants.{Region}
 use Rattle.std.specs.List.{flat_map}
 use Rattle.kernel_syntax.specs.declared.syntax.Array.{Array}
 use Rattle.kernel_syntax.specs.Program.{Program}
@@ -14,6 +13,7 @@ use Rattle.history_model.specs.Work.{Work, Phases, RegionWork, work_regions, lan
 use Rattle.race_model.specs.Trace.{barrier_count}
 use Rattle.history_model.specs.Joined.{LastIsEnd, PhasesEnd, ArePhasesJoined}
 use Rattle.execution_model.specs.Runs.{works_log, lane_begin}
+use Rattle.execution_model.specs.Stops.{LastIsRegionAt}
 use Rattle.lane_runner.specs.declared.stop.Stop.{Stop}
 use Rattle.lane_runner.specs.declared.stop.Stop.TheVariants as stop
 
@@ -45,18 +45,6 @@ pub record EndsInLane (program : Program) (end : Ending) (at : List Step) (numbe
   pub below : List Step
   pub path_is : path ≡ at ++ record { region = number; lane = lane; span = fork.team.span } ∷ below
   pub ends : EndsBelow program end (lane_begin fork lane) (lane_works lane phases) below
-
--- the last of these records is that of a region
-pub record LastIsRegion (records : List Record) : Type 0 where
-  pub prefix : List Record
-  pub last : Record
-  pub parts : records ≡ prefix ++ last ∷ []
-  pub forks : last.kind ≡ Region
-
--- and it has this line
-pub record LastIsRegionAt (line : ℕ) (records : List Record) : Type 0 where
-  pub region : LastIsRegion records
-  pub line_is : region.last.line ≡ line
 
 -- under a task with these works, the regions of the task at this path ended, and after the last one, at this line, it put no record
 pub data RestsBelow (line : ℕ) : List Work → List Step → Type 0 where

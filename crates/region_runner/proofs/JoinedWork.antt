@@ -16,7 +16,8 @@ use Rattle.history_model.specs.Joined.{IsJoined, PhasesEnd, ArePhasesJoined}
 use Rattle.lane_runner.specs.declared.stop.Stop.TheVariants as stop
 use Rattle.lane_runner.specs.declared.stop.Halt.{Halt}
 use Rattle.lane_runner.specs.declared.stop.Halt.TheVariants as halt
-use Rattle.lane_runner.specs.Stopping.{HaveEnded, LastIsRegion}
+use Rattle.lane_runner.specs.Stopping.{HaveEnded}
+use Rattle.execution_model.specs.Stops.{LastIsRegion}
 use Rattle.execution_model.specs.Elements.{layout_of}
 use Rattle.lane_runner.specs.World.{WorldValue}
 use Rattle.lane_runner.specs.Going.{Progress, HasReleased, Cause, AtLog, AtRegion, AtTasks, EndsBy, StopsBy, log_of, MadePast, Began, GoesPast}

@@ -5,7 +5,6 @@ use Rattle.std.proofs.lemmas.List.{append-nil, append_assoc}
 use Rattle.std.proofs.lemmas.Option.{get_or_from_slice_get, none-some, same_Some, slice_get_within}
 use Rattle.sw_base.specs.declared.path.Step.{Step}
 use Rattle.log_format.specs.declared.record.Record.{Record}
-use Rattle.race_model.specs.ForkJoin.{ListsTask}
 use Rattle.race_model.specs.Listing.{lane_of}
 use Rattle.race_model.specs.Trace.{Logs, logs_of}
 use Rattle.kernel_syntax.specs.Program.{Program}
@@ -24,9 +23,10 @@ use Rattle.execution_model.specs.Runs.{IsWithin, RunsTask, lane_begin, logged_ta
 use Rattle.execution_laws.proofs.Descent.{RunsAt, down, released_of}
 use Rattle.execution_laws.proofs.LoggedTasks.{listed_forked, lists_logged, log_is, logged_lists}
 use Rattle.execution_laws.proofs.Prefixes.{ends_same}
-use Rattle.lane_runner.specs.Stopping.{GoesFurther, HaveEnded, IsLeastBelow, EndsBelow, LastIsRegionAt, RestsBelow}
+use Rattle.lane_runner.specs.Stopping.{GoesFurther, HaveEnded, IsLeastBelow, EndsBelow, RestsBelow}
+use Rattle.execution_model.specs.Stops.{EndsTask, LanesEnd, LastIsRegionAt}
 use Rattle.execution_model.specs.Elements.{layout_of}
-use Rattle.region_runner.specs.Answer.{EndsTask, IsLeast, LanesEnd}
+use Rattle.region_runner.specs.Answer.{IsLeast}
 use Rattle.execution_laws.specs.Nesting.{NestsWithin}
 use Rattle.execution_laws.proofs.TaskListing.{RegionNests, WorksNest, all_regions_nest, found_nests, lane_of_region_nests}
 

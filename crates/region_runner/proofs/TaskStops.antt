@@ -20,7 +20,8 @@ use Rattle.lane_runner.specs.declared.stop.Halt.TheVariants as halt
 use Rattle.lane_runner.specs.declared.stop.Stop.{Stop}
 use Rattle.lane_runner.specs.declared.stop.Stop.TheVariants as stop
 use Rattle.lane_runner.specs.Going.{Progress, AtRegion, AtTasks}
-use Rattle.lane_runner.specs.Stopping.{HaveEnded, IsLeastInLane, LastIsRegionAt, RestsInLane, StopsAtLast, ending_for, itself}
+use Rattle.lane_runner.specs.Stopping.{HaveEnded, IsLeastInLane, RestsInLane, StopsAtLast, ending_for, itself}
+use Rattle.execution_model.specs.Stops.{LastIsRegionAt}
 use Rattle.lane_runner.specs.Stopping.{RestsBelow, below as further}
 use Rattle.lane_runner.specs.Stopping.{IsLeastBelow, below as lower}
 use Rattle.lane_runner.specs.World.{WorldValue}

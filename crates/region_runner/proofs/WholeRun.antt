@@ -46,11 +46,11 @@ use Rattle.lane_runner.specs.declared.stop.Stop.{Stop}
 use Rattle.lane_runner.specs.declared.stop.Stop.TheVariants as stop
 use Rattle.lane_runner.specs.Forking.{Answer, stop_in}
 use Rattle.lane_runner.specs.Handed.{AreEntriesOf, HandedEntry, IsEntryOf, KeepsRecords, LogPlace, TellStop, entries_of, entry_of}
-use Rattle.lane_runner.specs.Stopping.{LastIsRegionAt}
+use Rattle.execution_model.specs.Stops.{EndsTask, LanesEnd, LastIsRegionAt}
 use Rattle.execution_model.specs.Elements.{HaveOwnWords, element_address, element_word, layout_of}
 use Rattle.lane_runner.proofs.HandedTasks.{tree_listed}
 use Rattle.execution_model.proofs.OwnWords.{bounded_widths, own_words}
-use Rattle.region_runner.specs.Answer.{AreFaultless, EndsTask, HasRun, HasStoppedRun, IsLeast, IsEndedRun, LanesEnd, StopsIn, whole_handed, whole_outline}
+use Rattle.region_runner.specs.Answer.{AreFaultless, HasRun, HasStoppedRun, IsLeast, IsEndedRun, StopsIn, whole_handed, whole_outline}
 use Rattle.execution_laws.specs.Nesting.{NestsWithin}
 use Rattle.region_runner.specs.Gathering.{ClosedValue}
 use Rattle.region_runner.specs.Root.{IsSettled, RanRoot, RootRests, StopsRoot}

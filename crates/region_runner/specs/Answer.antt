@@ -12,21 +12,20 @@ use Rattle.sw_base.specs.declared.trouble.Trouble.TheVariants.{Memory}
 use Rattle.sw_base.specs.Environment.{Outline, Text, WhereTold, empty_text}
 use Rattle.sw_base.specs.HandedLog.{HandedLog, handed_log}
 use Rattle.sw_base.specs.Pieces.{cut}
-use Rattle.race_model.specs.ForkJoin.{ListsTask}
 use Rattle.race_model.specs.IndexFault.{max_rows}
 use Rattle.race_model.specs.KeepsRules.{KeepsRules}
 use Rattle.race_model.specs.Listing.{IsListing, lane_of}
 use Rattle.race_model.specs.Trace.{TaskLog, Trace, logs_of}
 use Rattle.kernel_syntax.specs.Layout.{elements}
 use Rattle.kernel_syntax.specs.Program.{Program}
-use Rattle.kernel_model.specs.Folder.{IsTracedFolder, IsTracedTo, paths_of, start_at}
-use Rattle.kernel_model.specs.Trace.{Start, Ending}
-use Rattle.history_model.specs.Joined.{LastIsEnd}
+use Rattle.kernel_model.specs.Folder.{IsTracedFolder, paths_of}
+use Rattle.kernel_model.specs.Trace.{Ending}
 use Rattle.execution_model.specs.Execution.{IsExecution}
 use Rattle.lane_runner.specs.declared.stop.Stop.{Stop}
 use Rattle.lane_runner.specs.declared.stop.Stop.TheVariants as stop
 use Rattle.lane_runner.specs.Handed.{AreEntriesOf, HandedEntry, TellStop, entries_of}
-use Rattle.lane_runner.specs.Stopping.{GoesFurther, IsNoTrouble, LastIsRegionAt, ending_for}
+use Rattle.lane_runner.specs.Stopping.{GoesFurther, IsNoTrouble, ending_for}
+use Rattle.execution_model.specs.Stops.{EndsTask, LanesEnd, LastIsRegionAt}
 use Rattle.execution_model.specs.Elements.{element_address}
 use Rattle.region_runner.specs.declared.run.Finished.{Finished}
 use Rattle.region_runner.specs.declared.run.Stopped.{Stopped}
@@ -69,22 +68,11 @@ pub record HasRun (program : Program) (dir : List ℕ) (size : ℕ) (root : Opti
 abbrev pub AreFaultless : {L : Type 0} → (L → ℕ) → List (ClosedLog L) → Type 0
 AreFaultless faults_of entries = All (λ closed. faults_of closed.log ≡ 0) entries
 
--- the task of this path starts where the run forks it, and its log is its whole trace, which ends so
-pub record EndsTask (program : Program) (tasks : Trace) (path : List Step) (end : Ending) : Type 0 where
-  pub listed : ListsTask tasks path
-  pub start : Start
-  pub starts : start_at program (logs_of tasks) path ≡ Some start
-  pub traced : IsTracedTo program start (logs_of tasks path) end
-
 -- At each step of the path each smaller lane of the region went further, so that the task of this path is in the least lane that
 -- stopped.
 abbrev pub IsLeast : Trace → List Step → Type 0
 IsLeast tasks path = (above : List Step) (step : Step) (below : List Step) → path ≡ above ++ step ∷ below → (lane : ℕ) → lane < step.lane
     → GoesFurther (logs_of tasks (lane_of above step.region lane step.span)) (logs_of tasks (above ++ step ∷ []))
-
--- each lane of the regions of the task of this path put its End
-abbrev pub LanesEnd : Trace → List Step → Type 0
-LanesEnd tasks path = (step : Step) → ListsTask tasks (path ++ step ∷ []) → LastIsEnd (logs_of tasks (path ++ step ∷ []))
 
 -- The run stopped so in the task of this path: a stop that traces tell is how its trace ends; where too many tasks were below it,
 -- its last record is that of a region at this line, and its regions are joined; and but for trouble it is in the least lane that stopped.

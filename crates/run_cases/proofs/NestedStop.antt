@@ -23,7 +23,8 @@ use Rattle.step_history.specs.History.{HasHistory}
 use Rattle.serial_model.proofs.Legal.{serial_history}
 use Rattle.lane_runner.specs.declared.stop.Stop.TheVariants as stop
 use Rattle.lane_runner.specs.Stopping.{GoesFurther}
-use Rattle.region_runner.specs.Answer.{EndsTask, IsLeast, StopsIn}
+use Rattle.region_runner.specs.Answer.{IsLeast, StopsIn}
+use Rattle.execution_model.specs.Stops.{EndsTask}
 use Rattle.run_command.specs.Run.{AreStopped}
 use Rattle.run_cases.specs.TwoLanes.{dir, team_path, size}
 use Rattle.run_cases.specs.Nested.{inner, inner_path, kernel, logs, outer, tasks}

@@ -23,7 +23,8 @@ use Rattle.execution_model.specs.Runs.{RunsTask, RunsRegions, lane_begin, logged
 use Rattle.execution_laws.specs.Nesting.{NestsWithin}
 use Rattle.step_history.specs.History.{HasHistory}
 use Rattle.serial_model.proofs.Legal.{serial_history}
-use Rattle.region_runner.specs.Answer.{EndsTask, IsLeast}
+use Rattle.region_runner.specs.Answer.{IsLeast}
+use Rattle.execution_model.specs.Stops.{EndsTask}
 use Rattle.run_command.specs.Run.{AreStopped}
 use Rattle.run_cases.specs.TwoLanes.{accessed, body, dir, first_log, kernel, team_path, logs, second_log, size, tasks, tasks_of}
 use Rattle.run_cases.proofs.Impossible.{no_more, not_empty}

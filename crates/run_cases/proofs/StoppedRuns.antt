@@ -21,8 +21,9 @@ use Rattle.execution_laws.specs.Nesting.{NestsWithin}
 use Rattle.execution_laws.proofs.TaskListing.{are_within}
 use Rattle.execution_laws.proofs.Whole.{execution}
 use Rattle.execution_model.specs.Elements.{layout_of, element_address}
-use Rattle.region_runner.specs.Answer.{EndsTask, IsLeast}
-use Rattle.run_command.specs.Run.{AreLeftLogs, AreStopped, IsLeftLog, StopsAt, told_log}
+use Rattle.region_runner.specs.Answer.{IsLeast}
+use Rattle.execution_model.specs.Stops.{EndsTask, StopsAt}
+use Rattle.run_command.specs.Run.{AreLeftLogs, AreStopped, IsLeftLog, told_log}
 use Rattle.run_cases.specs.TwoLanes.{dir, kernel, size}
 
 -- both kernels have this array

@@ -2,7 +2,8 @@
 ghost use Rattle.kernel_model.specs.declared.stop.StopWhy.TheVariants as reason;
 ghost use Rattle.kernel_model.specs.Trace.{Stopped};
 ghost use Rattle.lane_runner.specs.declared.stop.Stop.TheVariants as stop;
-ghost use Rattle.region_runner.specs.Answer.{EndsTask, StopsIn};
+ghost use Rattle.execution_model.specs.Stops.{EndsTask};
+ghost use Rattle.region_runner.specs.Answer.{StopsIn};
 ghost use Rattle.run_command.specs.Run.{AreStopped};
 ghost use Rattle.run_cases.specs.TwoLanes.{dir, team_path, size};
 ghost use Rattle.run_cases.specs.Nested.{inner_path, kernel, logs, tasks};

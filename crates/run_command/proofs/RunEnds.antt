@@ -30,13 +30,14 @@ use Rattle.kernel_file.specs.Holding.{IsRefusal}
 use Rattle.event_buffer.specs.Logged.{HasAll}
 use Rattle.lane_runner.specs.declared.stop.Stop.{Stop}
 use Rattle.lane_runner.specs.declared.stop.Stop.TheVariants.{DivZero, Index, LogFull, Tasks, Trouble}
-use Rattle.lane_runner.specs.Handed.{AreEntriesOf, HandedEntry, HasCrowdedTask, HasFaultyLog, IsEntryOf, IsForMemory, KeepsRecords, LogPlace, MayLack, entries_of, entry_of}
+use Rattle.lane_runner.specs.Handed.{AreEntriesOf, HandedEntry, HasCrowdedTask, HasFaultyLog, IsEntryOf, KeepsRecords, LogPlace, entries_of, entry_of}
 use Rattle.lane_runner.specs.Handed as handed
 use Rattle.lane_runner.specs.Stopping.{IsNoTrouble}
-use Rattle.region_runner.specs.Answer.{EndsTask, HasRun, HasStoppedRun, IsEndedRun, StopsIn, whole_handed, whole_outline}
+use Rattle.region_runner.specs.Answer.{HasRun, HasStoppedRun, IsEndedRun, StopsIn, whole_handed, whole_outline}
+use Rattle.execution_model.specs.Stops.{EndsTask, IsCrowded, StopsAt}
 use Rattle.run_command.specs.declared.outcome.Outcome.TheVariants as came
 use Rattle.run_command.specs.Outcomes.{unkernelled, unwritten}
-use Rattle.run_command.specs.Run.{AreLeftLogs, AreRunLogs, AreStopped, CameOut, CanRun, EndedRun, EndsSo, IsCrowded, IsLeftLog, IsTornLog, IsWholeRun, LeavesPart, StoppedRun, StopsAt, told_log}
+use Rattle.run_command.specs.Run.{AreLeftLogs, AreStopped, CameOut, CanRun, EndedRun, EndsSo, IsLeftLog, IsWholeRun, LeavesPart, StoppedRun}
 use Rattle.run_command.specs.Run as left
 use Rattle.run_command.specs.Told.{told_stop}
 use Rattle.run_command.specs.Seals.{AllTell, RaiseFaults, SealsAll, StoresAll, StoresPrefix, StoresPart, all_logged, prefix, part, row_of_entry, rows_of_logs, with_index}

@@ -1,23 +1,21 @@
 -- What comes out of a run, and what it leaves in the folder.
-use Rattle.std.specs.Prelude.{◌≡◌, ◌⊎◌, ◌↔◌, ℕ, List, ◌++◌, ◌∷◌, [], length, map, sum_by, All, Option, ◌<◌, ◌≤◌, ◌+◌, ◌*◌, None, Some, IsSome}
-use Rattle.log_format.specs.Limit.{task_limit}
+use Rattle.std.specs.Prelude.{◌≡◌, ◌⊎◌, ◌↔◌, ℕ, List, ◌++◌, ◌∷◌, [], length, map, sum_by, Option, ◌≤◌, ◌+◌, ◌*◌, None, Some, IsSome}
 use Rattle.log_format.specs.declared.format.TheConstants.{FORMAT}
 use Rattle.log_format.specs.Format.{log_header}
 use Rattle.log_format.specs.Spelling.{log_bytes}
 use Rattle.sw_base.specs.declared.path.Step.{Step}
 use Rattle.sw_base.specs.Environment.{Files, Content, Outline, with_put}
 use Rattle.sw_base.specs.HandedLog.{HandedLog, SealsPrefix, with_sealed}
-use Rattle.sw_base.specs.Names.{IsUnder, index_name}
+use Rattle.sw_base.specs.Names.{index_name}
 use Rattle.sw_base.specs.Pieces.{records_in, kept}
 use Rattle.race_model.specs.FirstBad.{rows_of}
 use Rattle.race_model.specs.IndexFault.{max_rows}
 use Rattle.race_model.specs.Listing.{IsListing}
 use Rattle.race_model.specs.Row.{index_bytes}
-use Rattle.race_model.specs.Trace.{TaskLog, Trace, logs_of}
+use Rattle.race_model.specs.Trace.{TaskLog, Trace}
 use Rattle.kernel_syntax.specs.Layout.{elements}
 use Rattle.kernel_syntax.specs.Program.{Program, program_of}
 use Rattle.kernel_model.specs.declared.stop.StopWhy.{StopWhy}
-use Rattle.kernel_model.specs.declared.stop.StopWhy.TheVariants.{Tasks}
 use Rattle.kernel_model.specs.Folder.{IsTracedFolder, paths_of}
 use Rattle.kernel_model.specs.Stopping.{stop_name}
 use Rattle.kernel_model.specs.Trace.{Stopped}
@@ -29,9 +27,9 @@ use Rattle.command_answer.specs.Texts.{index_exists_text}
 use Rattle.kernel_file.specs.Due.{KernelDue}
 use Rattle.kernel_file.specs.Holding.{HoldsKernel, HoldsFault}
 use Rattle.execution_model.specs.Execution.{IsExecution}
-use Rattle.lane_runner.specs.Stopping.{LastIsRegionAt}
+use Rattle.execution_model.specs.Stops.{StopsAt}
 use Rattle.execution_model.specs.Elements.{element_address}
-use Rattle.region_runner.specs.Answer.{EndsTask, IsLeast, LanesEnd, whole_outline}
+use Rattle.region_runner.specs.Answer.{IsLeast, whole_outline}
 use Rattle.run_command.specs.declared.outcome.Outcome.{Outcome}
 use Rattle.run_command.specs.declared.outcome.Outcome.TheVariants as outcome
 
@@ -88,21 +86,6 @@ pub data AreLeftLogs (rose : Type 0) (dir : List ℕ) (size : ℕ) (stopped : Li
   no_task : AreLeftLogs rose dir size stopped [] []
   next : (task : TaskLog) (tasks : Trace) (log : HandedLog) (logs : List HandedLog) → IsLeftLog rose dir size stopped task log → AreLeftLogs rose dir size stopped tasks logs
       → AreLeftLogs rose dir size stopped (task ∷ tasks) (log ∷ logs)
-
--- of these paths more lie below this one than there may be tasks below one
-pub record IsCrowded (path : List Step) (paths : List (List Step)) : Type 0 where
-  pub before : List (List Step)
-  pub below : List (List Step)
-  pub after : List (List Step)
-  pub parts : paths ≡ before ++ path ∷ (below ++ after)
-  pub under : All (λ p. IsUnder p path) below
-  pub many : task_limit < length below
-
--- How the task of this path stopped, at this line: its trace ends so; or where too many tasks lie below it, its last record is that of a region at
--- the line, and each lane of its regions put its End.
-pub data StopsAt (program : Program) (tasks : Trace) (path : List Step) (line : ℕ) : StopWhy → Type 0 where
-  as_traced : (reason : StopWhy) → (reason ≡ Tasks → ⊥) → EndsTask program tasks path (Stopped reason line) → StopsAt program tasks path line reason
-  crowded : LastIsRegionAt line (logs_of tasks path) → LanesEnd tasks path → IsCrowded path (paths_of tasks) → StopsAt program tasks path line Tasks
 
 -- The kernel stopped so in the task of this path, which is in the least lane that stopped. The logs are those of the tasks of one execution, in the
 -- order of their paths.
