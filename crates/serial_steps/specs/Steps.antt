@@ -28,7 +28,7 @@ HasFewBelow run path = (below : List (List Step)) → IsDistinct path_eq below �
 
 -- The task of this path may put this record: it starts where the run forks it, the record is the next of its trace and fits what the run left in
 -- memory, all lanes of its team passed the barriers that it passed, the lanes of its regions have ended, and few enough tasks are below it.
-pub record MayGoOn (program : Program) (run : List Entry) (path : List Step) (r : Record) : Type 0 where
+pub record CanPutNext (program : Program) (run : List Entry) (path : List Step) (r : Record) : Type 0 where
   pub start : Start
   pub starts : start_at program (log_in run) path ≡ Some start
   pub begun : BeginsTrace program start (log_in run path ++ r ∷ [])
@@ -39,8 +39,8 @@ pub record MayGoOn (program : Program) (run : List Entry) (path : List Step) (r 
 
 -- and no task in a smaller lane may put one
 pub record GoesNext (program : Program) (run : List Entry) (path : List Step) (r : Record) : Type 0 where
-  pub may : MayGoOn program run path r
-  pub first : (other : List Step) (s : Record) → HasSmallerLane other path → MayGoOn program run other s → ⊥
+  pub may : CanPutNext program run path r
+  pub first : (other : List Step) (s : Record) → HasSmallerLane other path → CanPutNext program run other s → ⊥
 
 -- the serial run of the kernel comes so far
 pub data StepsSerially (program : Program) : List Entry → Type 0 where
@@ -49,4 +49,4 @@ pub data StepsSerially (program : Program) : List Entry → Type 0 where
 
 -- no task goes on
 abbrev pub NoneGoesOn : Program → List Entry → Type 0
-NoneGoesOn program run = (path : List Step) (r : Record) → MayGoOn program run path r → ⊥
+NoneGoesOn program run = (path : List Step) (r : Record) → CanPutNext program run path r → ⊥
