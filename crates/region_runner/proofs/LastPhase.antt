@@ -8,6 +8,7 @@ use Rattle.kernel_model.specs.Parts.{bar_count, run_parts}
 use Rattle.kernel_model.specs.Phases.{part_of}
 use Rattle.kernel_model.specs.State.{event, put}
 use Rattle.kernel_model.specs.Effect.{Returned}
+use Rattle.kernel_model.proofs.Growing.{grows-put}
 use Rattle.shared_words.specs.declared.view.View.{View}
 use Rattle.shared_words.specs.Handles.{HandValue, WordsValue}
 use Rattle.history_model.specs.Work.{Rest, Put, work_records, then_work}
