@@ -7,19 +7,24 @@ use std::fs;
 use std::io::Read;
 use sw_base::{File, Trouble};
 
-/// A real file that is open.
+/// A real file that is open. It ends where it ended when it was opened, so that no call of the system is made at its end.
 #[derive(Drop)]
 pub struct HostFile {
     file: fs::File,
+    left: u64,
     faults: u64,
 }
 
 impl HostFile {
-    // A file of which no read failed yet.
-    pub(crate) fn new(file: fs::File) -> HostFile
+    // A file of so many bytes, of which no read failed yet.
+    pub(crate) fn new(file: fs::File, size: u64) -> HostFile
         ensures { result.faults ≡ 0 }
     {
-        HostFile { file, faults: 0 }
+        HostFile {
+            file,
+            left: size,
+            faults: 0,
+        }
     }
 
     // How often a read failed.
@@ -36,8 +41,14 @@ impl File for HostFile {
     ghost faults = { λ file. file.faults };
 
     fn read(&mut self, _alloc: Global, into: &mut [u8]) -> Result<usize, Trouble> {
+        if self.left == 0 {
+            return Ok(0);
+        }
         match self.file.read(into) {
-            Ok(count) => Ok(count),
+            Ok(count) => {
+                self.left = self.left.saturating_sub(count as u64);
+                Ok(count)
+            }
             Err(error) => Err(trouble(error, &mut self.faults)),
         }
     }

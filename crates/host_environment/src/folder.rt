@@ -85,7 +85,7 @@ impl<R: Files<File = File> + Clone + Drop + Send + 'static> Folder for HostFolde
 
     fn open_file(&mut self, _alloc: Global, name: &str) -> Result<Option<HostFile>, Trouble> {
         match open_regular(&self.rt, name) {
-            Ok(file) => Ok(Some(HostFile::new(file))),
+            Ok((file, size)) => Ok(Some(HostFile::new(file, size))),
             Err(error) if is_missing(&error) => Ok(None),
             Err(error) => Err(trouble(error, &mut self.read_faults)),
         }

@@ -101,10 +101,11 @@ pub(crate) fn size_of<R: Files>(rt: &R, name: &str) -> io::Result<u64> {
     }
 }
 
-/// Opens a file to be read. One that is no regular file is an error and isn't opened: it may have no end, or wait for who writes into it.
-pub(crate) fn open_regular<R: Files>(rt: &R, name: &str) -> io::Result<R::File> {
-    size_of(rt, name)?;
-    File::open(rt, name)
+/// Opens a file to be read, and tells how many bytes it has. One that is no regular file is an error and isn't opened: it may have no end, or wait
+/// for who writes into it.
+pub(crate) fn open_regular<R: Files>(rt: &R, name: &str) -> io::Result<(R::File, u64)> {
+    let size = size_of(rt, name)?;
+    Ok((File::open(rt, name)?, size))
 }
 
 /// Makes the file, or empties it.
