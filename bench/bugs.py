@@ -18,7 +18,7 @@ import tempfile
 import bodies
 
 REPOSITORY = bodies.TOP
-ROUNDS = 16
+ROUNDS = 128
 
 
 def toolchain():
