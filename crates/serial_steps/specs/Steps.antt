@@ -1,5 +1,5 @@
 -- The serial run of a kernel, record by record: of the tasks that may go on, the one in the smallest lane puts its next record.
-use Rattle.std.specs.Prelude.{◌≡◌, ℕ, ◌≤◌, List, [], ◌∷◌, ◌++◌, length, map, All, Some}
+use Rattle.std.specs.Prelude.{◌≡◌, ◌≤◌, List, [], ◌∷◌, ◌++◌, length, map, All, Some}
 use Rattle.std.specs.List.{IsDistinct}
 use Rattle.sw_base.specs.declared.path.Step.{Step}
 use Rattle.sw_base.specs.Names.{IsUnder}
