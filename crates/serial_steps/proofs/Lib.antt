@@ -4,3 +4,4 @@ pub mod NextRecords
 pub mod NextLogs
 pub mod Forked
 pub mod Once
+pub mod Ends

@@ -182,7 +182,7 @@ module _ (program : Program) (lawful : IsLawful program) (fixed : IsFixed progra
 
   -- ---- runs
 
-  one_more : (run : List Entry) (path : List Step) (r : Record) → length (with_entry run path r) ≡ length run + 1
+  pub one_more : (run : List Entry) (path : List Step) (r : Record) → length (with_entry run path r) ≡ length run + 1
   one_more run path r = length_push run (record { node = record { path = path; index = length (log_in run path) }; event = r })
 
   -- runs of one length are one
