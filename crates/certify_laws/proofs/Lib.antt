@@ -1,5 +1,4 @@
 mod Doing
-mod GoAlike
 mod Moving
 mod Once
 mod OneAnswer

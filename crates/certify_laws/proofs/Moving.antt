@@ -24,7 +24,7 @@ use Rattle.certainty_model.proofs.Pairs.{FixedFork}
 use Rattle.serial_run.specs.Going.{SerialProgress, room_of, FindsValue, words_after, Finds, ArePlain, RanPart}
 use Rattle.serial_run.specs.Placing.{Bound, OfLog, OfRun, ElementLayout}
 use Rattle.serial_run.specs.Stepping.{Stand, Leads, Adds, stand_left}
-use Rattle.certify_laws.proofs.GoAlike.{ReadApart, GoAlike, AreSized, alike_past, forks_fixed, traces_go_alike}
+use Rattle.serial_steps.proofs.GoAlike.{ReadApart, GoAlike, AreSized, alike_past, forks_fixed, traces_go_alike}
 use Rattle.serial_team.specs.Stopping.{bounded}
 use Rattle.certify_laws.proofs.Rooms.{GoesOn, IsWanting, Roomy, goes_past, put-roomy, rest-roomy, roomy}
 

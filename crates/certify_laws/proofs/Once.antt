@@ -29,7 +29,7 @@ use Rattle.serial_team.specs.declared.member.Stage.TheVariants as stage
 use Rattle.serial_team.specs.Members.{Pool, pool_at, WholeLog, MemberValue, later, amid, path_in, logs_at, logs_of_member, BeginsLane, BeginTeam}
 use Rattle.serial_team.specs.Running.{past_region}
 use Rattle.serial_team.specs.Stopping.{StopAt, bounded}
-use Rattle.certify_laws.proofs.GoAlike.{AreSized, sized_both}
+use Rattle.serial_steps.proofs.GoAlike.{AreSized, sized_both}
 use Rattle.certify_laws.proofs.Moving.{HasCome, IsMark, Moves, finds_sized, has_come, halts_alone, leave_once, long_or_halt, long_or_move, nothing_grows, same_added, same_forks, same_halt, same_mark}
 use Rattle.serial_laws.proofs.Growing.{left_grows}
 use Rattle.certify_laws.proofs.Doing.{LaneEnd, Stands, Fails, Breaks, PhaseEnd, Went, Broke, TeamEnd, AllStand, OneFails, OneBreaks, with_lane, with_stop, LaneDoes, RegionDoes, TeamDoes, OthersDo, PhasesDo}

@@ -1,10 +1,11 @@
 -- The serial run of a kernel, record by record: of the tasks that may go on, the one in the smallest lane puts its next record.
-use Rattle.std.specs.Prelude.{◌≡◌, ℕ, ◌≤◌, List, [], ◌∷◌, ◌++◌, length, map, All, Some}
+use Rattle.std.specs.Prelude.{◌≡◌, ◌≤◌, List, [], ◌∷◌, ◌++◌, length, map, All, Some}
 use Rattle.std.specs.List.{IsDistinct}
 use Rattle.sw_base.specs.declared.path.Step.{Step}
 use Rattle.sw_base.specs.Names.{IsUnder}
 use Rattle.log_format.specs.Limit.{task_limit}
 use Rattle.log_format.specs.declared.record.Record.{Record}
+use Rattle.race_model.specs.ForkJoin.{WasForked}
 use Rattle.race_model.specs.Trace.{Logs, path_eq}
 use Rattle.race_model.specs.History.{Entry, FitsKind, task_entries}
 use Rattle.kernel_syntax.specs.Program.{Program}
@@ -26,11 +27,13 @@ with_entry run path r = run ++ record { node = record { path = path; index = len
 abbrev pub HasFewBelow : List Entry → List Step → Type 0
 HasFewBelow run path = (below : List (List Step)) → IsDistinct path_eq below → All (λ (p : List Step). IsUnder p path × LastIsEnd (log_in run p)) below → length below ≤ task_limit
 
--- The task of this path may put this record: it starts where the run forks it, the record is the next of its trace and fits what the run left in
--- memory, all lanes of its team passed the barriers that it passed, the lanes of its regions have ended, and few enough tasks are below it.
+-- The task of this path may put this record: it starts where the run forks it, after the Region record that does so, the record is the next of its
+-- trace and fits what the run left in memory, all lanes of its team passed the barriers that it passed, the lanes of its regions have ended, and few
+-- enough tasks are below it.
 pub record CanPutNext (program : Program) (run : List Entry) (path : List Step) (r : Record) : Type 0 where
   pub start : Start
   pub starts : start_at program (log_in run) path ≡ Some start
+  pub forked : (above : List Step) (step : Step) → path ≡ above ++ step ∷ [] → WasForked (log_in run) above step
   pub begun : BeginsTrace program start (log_in run path ++ r ∷ [])
   pub fits : FitsKind r.kind run r path
   pub met : HaveMet (log_in (with_entry run path r))
