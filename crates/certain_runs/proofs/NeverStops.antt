@@ -22,8 +22,8 @@ use Rattle.certainty_model.specs.Certain.{IsCertain}
 use Rattle.certainty_model.proofs.CertainRuns.{of_execution, begins_run, never_stops}
 use Rattle.certainty_model.proofs.WholeRuns.{starts_listed}
 use Rattle.command_answer.specs.declared.status.TheConstants.{DONE, KERNEL_STOPPED}
-use Rattle.run_command.specs.Run.{RunAnswer, RunDue, StoppedRun, as_traced, crowded, ended_so, index_there, stopped_so}
-use Rattle.execution_model.specs.Stops.{IsCrowded, StopsAt}
+use Rattle.run_command.specs.Run.{RunAnswer, RunDue, StoppedRun, ended_so, index_there, stopped_so}
+use Rattle.execution_model.specs.Stops.{IsCrowded, StopsAt, as_traced, crowded}
 use Rattle.certify.specs.Verdicts.{HasCertainRun, Tells}
 use Rattle.certify.specs.declared.verdict.Verdict.{Verdict}
 use Rattle.certify.specs.declared.verdict.Verdict.TheVariants as verdict

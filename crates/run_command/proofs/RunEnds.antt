@@ -174,14 +174,14 @@ none_is_trouble (Trouble t) told is = none-some told is
 -- how a task stopped, by what is told of it
 module _ (program : Program) (tasks : Trace) (path : List Step) (told : ℕ × StopWhy) where
   as_traced : (line : ℕ) (reason : StopWhy) → (reason ≡ because.Tasks → ⊥) → Some (line, reason) ≡ Some told → EndsTask program tasks path (Stopped reason line) → StopsAt program tasks path told.0 told.1
-  as_traced line reason other is ends = subst (λ (t : ℕ × StopWhy). StopsAt program tasks path t.0 t.1) (same_Some (line, reason) told is) (left.as_traced reason other ends)
+  as_traced line reason other is ends = subst (λ (t : ℕ × StopWhy). StopsAt program tasks path t.0 t.1) (same_Some (line, reason) told is) (StopsAt.as_traced reason other ends)
 
   stops_at : (why : Stop) → told_stop why ≡ Some told → StopsIn program tasks path why → ((at : ℕ) → why ≡ Tasks at → IsCrowded path (paths_of tasks)) → StopsAt program tasks path told.0 told.1
   stops_at (DivZero line) is s crowded = as_traced line because.DivZero (λ same. cc) is (s.traced (Stopped because.DivZero line) refl)
   stops_at (Index line) is s crowded = as_traced line because.Index (λ same. cc) is (s.traced (Stopped because.Index line) refl)
   stops_at (LogFull line) is s crowded = as_traced line because.LogFull (λ same. cc) is (s.traced (Stopped because.LogFull line) refl)
   stops_at (Tasks line) is s crowded =
-      subst (λ (t : ℕ × StopWhy). StopsAt program tasks path t.0 t.1) (same_Some (line, because.Tasks) told is) (left.crowded (s.crowded line refl) (s.joined line refl) (crowded line refl))
+      subst (λ (t : ℕ × StopWhy). StopsAt program tasks path t.0 t.1) (same_Some (line, because.Tasks) told is) (StopsAt.crowded (s.crowded line refl) (s.joined line refl) (crowded line refl))
   stops_at (Trouble t) is s crowded = absurd (none-some told is)
 
 module _ (rose : Type 0) (dir : List ℕ) (size : ℕ) (path : List Step) (why : Stop) (told : ℕ × StopWhy) (is_told : told_stop why ≡ Some told) where
