@@ -116,9 +116,10 @@ mutual
     over : (ts us : List SerialTask) (s q : Shared) (end : Still) → PhaseGoes program ts s us q end → (end ≡ Still.at_barrier → ⊥) → RegionGoes program ts s us q end
     next : (ts us vs : List SerialTask) (s p q : Shared) (end : Still) → PhaseGoes program ts s us p Still.at_barrier → RegionGoes program us p vs q end → RegionGoes program ts s vs q end
 
--- The serial run of the kernel, over memory that is 0 and with room for so many records, has these tasks when its root stands still.
-pub record GoesSerially (program : Program) (room : ℕ) (tasks : Trace) (end : Still) : Type 0 where
+-- The serial run of the kernel, over memory that is 0 and with room for so many records, has these tasks and leaves this memory when its root stands
+-- still so.
+pub record GoesSerially (program : Program) (room : ℕ) (tasks : Trace) (memory : ℕ → ℕ) (end : Still) : Type 0 where
   pub root : SerialTask
-  pub shared : Shared
-  pub goes : TaskGoes program (record { path = []; start = root_start program; records = []; below = [] }) (record { memory = λ addr. 0; left = room }) root shared end
+  pub left : ℕ
+  pub goes : TaskGoes program (record { path = []; start = root_start program; records = []; below = [] }) (record { memory = λ addr. 0; left = room }) root (record { memory = memory; left = left }) end
   pub tasks_are : tasks ≡ tasks_of root
