@@ -1,7 +1,7 @@
-//! The serial run of a kernel, told record by record over the logs: of the tasks that may go on, the one in the smallest lane puts its next record
-//! (`StepsSerially`). A fixed kernel has one such run: of two, one begins the other (`serial_runs_are_one`).
+//! The serial run of a kernel, told over logs, traces and memory alone (`GoesSerially`): the lanes of a region go on one after another, each to its next
+//! barrier or its end, and a region that a task forks runs before the task goes on. A fixed kernel has one such run (`serial_run_is_one`).
 #![tactic(auto)]
 
-mod steps;
+mod lanes;
 
-pub use steps::serial_runs_are_one;
+pub use lanes::serial_run_is_one;
