@@ -18,16 +18,14 @@ use Rattle.kernel_syntax.specs.Program.{Program}
 use Rattle.execution_model.specs.Elements.{layout_of}
 use Rattle.folder_races.specs.Pairs.{AreFolderPairs}
 use Rattle.serial_team.specs.Members.{WholeLog}
-use Rattle.serial_team.specs.Running.{DidRoot}
 use Rattle.serial_laws.specs.SerialRuns.{spelled}
 use Rattle.serial_laws.proofs.Certainty.{is_certain, is_ended, is_listed, is_run, keeps_rules}
 use Rattle.certainty_model.specs.Certain.{IsCertain}
 use Rattle.certainty_model.proofs.CertainRuns.{only_run}
 use Rattle.certify.specs.Holding.{HoldsTasks, KeepRules}
-use Rattle.certify.specs.Verdicts.{HasCertainRun, HasRaces, OpensOneTooMany, RunSpells, RunsTo, element_layout, record_total}
+use Rattle.certify.specs.Verdicts.{HasCertainRun, HasRaces, OpensOneTooMany, RunSpells, RunsTo, record_total}
 use Rattle.folder_races.proofs.FewSegments.{few_segments}
 use Rattle.certify.proofs.TooMany.{opens_the_first}
-use Rattle.certify.specs.declared.certifying.TheConstants.{MOST_RECORDS}
 
 counts_spelled : (tasks : Trace) → sum_by (λ (log : WholeLog). log.count) (map spelled tasks) ≡ record_total tasks
 counts_spelled [] = refl
@@ -60,7 +58,9 @@ module _ (program : Program) (logs : List WholeLog) (words : List ℕ) (r : RunS
     history = is_ended program (layout_of program.arrays) tasks words r.run.run;
     all = r.run.run.all;
     few = r.run.few;
-    ran = subst (λ (ls : List WholeLog). DidRoot (element_layout program) program MOST_RECORDS ls words) r.run.logs_are r.ran;
+    memory = r.memory;
+    goes = r.goes;
+    words_are = r.words_are;
   }
 
   module _ (dir : List ℕ) (told : Option Content) (held : HoldsTasks dir logs told) where

@@ -1,5 +1,5 @@
 -- What a verdict tells of a kernel.
-use Rattle.std.specs.Prelude.{◌≡◌, ◌≢◌, ℕ, ◌+◌, ◌<◌, ◌≤◌, List, [], map, length, sum_by, take, slice_get, Some}
+use Rattle.std.specs.Prelude.{◌≡◌, ◌≢◌, ℕ, ◌+◌, ◌<◌, ◌≤◌, List, [], length, sum_by, take, slice_get, slice_index, Some}
 use Rattle.sw_base.specs.declared.path.Step.{Step}
 use Rattle.race_model.specs.FirstBad.{segments_in}
 use Rattle.race_model.specs.IndexFault.{max_rows}
@@ -15,27 +15,21 @@ use Rattle.kernel_model.specs.Lawful.{IsLawful}
 use Rattle.certainty_model.specs.Certain.{AreSame, IsCertain, IsFixed, IsRun}
 use Rattle.certify.specs.Constructs.{construct_lines}
 use Rattle.serial_model.specs.Order.{HasSerialHistory}
-use Rattle.serial_laws.specs.SerialRuns.{LogsSerialRun, spelled}
-use Rattle.serial_run.specs.Placing.{OfLog, ElementLayout}
+use Rattle.serial_laws.specs.SerialRuns.{LogsSerialRun}
+use Rattle.serial_steps.specs.Lanes.{Still, GoesSerially}
 use Rattle.serial_team.specs.Members.{WholeLog}
-use Rattle.serial_team.specs.Running.{DidRoot}
-use Rattle.serial_team.specs.Stopping.{RootLong, RootStopped}
 use Rattle.execution_model.specs.Elements.{element_address, layout_of}
 use Rattle.certify.specs.declared.verdict.Verdict.{Verdict}
 use Rattle.certify.specs.declared.verdict.Verdict.TheVariants as verdict
 use Rattle.certify.specs.declared.certifying.TheConstants.{MOST_RECORDS}
-
--- where the elements of a kernel stand among the words of its serial run
-abbrev pub element_layout : Program → ElementLayout
-element_layout program = record { words = layout_of program.arrays; count = elements program.arrays; bound = OfLog }
 
 -- how many records the logs of tasks have
 abbrev pub record_total : Trace → ℕ
 record_total tasks = sum_by (λ (task : TaskLog). length task.records) tasks
 
 -- The serial run of the kernel, which is fixed: these tasks are those of a whole run, in the order of an index, and a legal history of them in
--- serial order ends with these words, one for each element. They are no more than an index has rows, and were run in memory, lane after lane,
--- with room for so many records.
+-- serial order ends with these words, one for each element. They are no more than an index has rows; and lane after lane, with room for so many
+-- records, the run comes to its end with them, and these words are what it leaves.
 pub record RunsTo (program : Program) (tasks : Trace) (words : List ℕ) : Type 0 where
   pub fixed : IsFixed program.main.body
   pub traced : IsTracedFolder program tasks
@@ -43,7 +37,16 @@ pub record RunsTo (program : Program) (tasks : Trace) (words : List ℕ) : Type 
   pub history : HasSerialHistory (logs_of tasks) (element_address program.arrays) words
   pub all : length words ≡ elements program.arrays
   pub few : length tasks ≤ max_rows
-  pub ran : DidRoot (element_layout program) program MOST_RECORDS (map spelled tasks) words
+  pub memory : ℕ → ℕ
+  pub goes : GoesSerially program MOST_RECORDS tasks memory Still.at_end
+  pub words_are : (word : ℕ) → word < length words → slice_index words word ≡ memory (element_address program.arrays word)
+
+-- the serial run of the kernel, which is fixed, ends so, with room for so many records
+pub record EndsAs (program : Program) (end : Still) : Type 0 where
+  pub fixed : IsFixed program.main.body
+  pub tasks : Trace
+  pub memory : ℕ → ℕ
+  pub goes : GoesSerially program MOST_RECORDS tasks memory end
 
 -- Counted over the logs in their order, this record of the log of the task at this path, from 1, opens the first barrier interval that is too many.
 pub record OpensTheFirst (tasks : Trace) (path : List Step) (number : ℕ) : Type 0 where
@@ -85,10 +88,8 @@ pub record HasCertainRun (program : Program) (count records : ℕ) (words : List
 
 abbrev pub Tells : Program → Verdict → Type 0
 Tells program (verdict.Construct line) = slice_get (construct_lines program.main.body) 0 ≡ Some line
-Tells program (verdict.Long path number) =
-    IsFixed program.main.body × RootLong (element_layout program) program MOST_RECORDS (record { path = path; number = number })
-Tells program (verdict.Stopped path line why) =
-    IsFixed program.main.body × RootStopped (element_layout program) program MOST_RECORDS (record { path = path; line = line; why = why })
+Tells program (verdict.Long path number) = EndsAs program (Still.too_long path number)
+Tells program (verdict.Stopped path line why) = EndsAs program (Still.stopped path line why)
 Tells program (verdict.Segments path number) = OpensOneTooMany program path number
 Tells program (verdict.Racy pairs) = HasRaces program pairs.keys
 Tells program (verdict.Certain tasks records words) = HasCertainRun program tasks records words.items
@@ -98,4 +99,6 @@ pub record RunSpells (program : Program) (logs : List WholeLog) (words : List �
   pub fixed : IsFixed program.main.body
   pub lawful : IsLawful program
   pub run : LogsSerialRun program (layout_of program.arrays) MOST_RECORDS logs words
-  pub ran : DidRoot (element_layout program) program MOST_RECORDS logs words
+  pub memory : ℕ → ℕ
+  pub goes : GoesSerially program MOST_RECORDS run.tasks memory Still.at_end
+  pub words_are : (word : ℕ) → word < length words → slice_index words word ≡ memory (element_address program.arrays word)
