@@ -1,9 +1,4 @@
-mod Doing
-mod Moving
-mod Once
 mod OneAnswer
 mod OneVerdict
 mod Opening
-mod Rooms
-mod Root
 mod TooMany

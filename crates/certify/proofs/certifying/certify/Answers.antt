@@ -5,8 +5,7 @@ use Rattle.serial_run.specs.Placing.{ElementLayout, TellsWords}
 use Rattle.serial_team.specs.Members.{whole_log}
 use Rattle.serial_laws.proofs.Root.{logs_run}
 use Rattle.certify.specs.declared.certifying.TheConstants.{MOST_RECORDS}
-use Rattle.certify.specs.Verdicts.{element_layout}
-use Rattle.certify.proofs.Layouts.{tells_words}
+use Rattle.certify.proofs.Layouts.{element_layout, tells_words}
 use Rattle.certify.proofs.certifying.certify.Goals as goal
 
 pub judge-requires-after_bounds : goal.judge-requires-after_bounds
