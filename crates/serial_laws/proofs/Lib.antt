@@ -6,10 +6,12 @@ mod Lined
 mod Logged
 mod Puts
 pub mod Root
+mod Rooms
 mod Shapes
 mod Stopped
 mod StoppedRoot
 mod StoppedTasks
+mod TooLong
 mod Traced
 mod Undrawn
 mod WholeTasks

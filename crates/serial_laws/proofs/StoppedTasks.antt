@@ -66,18 +66,22 @@ module _ (layout : ElementLayout) (by_log : layout.bound ≡ OfLog) (program : P
     abbrev here : model.State
     here = state_with x.slots records forks (room_of layout.bound x.progress) [] []
 
-    -- all that the task does is what is left of it here
-    task_here : task program start (reads_of records) (chunks_of records) ≡ stand_left x here
+    -- all that the task does under what its records read, and then these values, is what is left of it here under them
+    pub task_from : (reads : List ℤ) (chunks : List ℕ) → task program start (reads_of records ++ reads) (chunks_of records ++ chunks) ≡ stand_left x (state_with x.slots records forks (room_of layout.bound x.progress) reads chunks)
     unfolding task
-    task_here =
+    task_from reads chunks =
         let none = begun.none in
         let all : record_limit ≡ room = omega (arith, none, room_log layout.bound first.progress by_log) in
-        ap (λ (n : ℕ). parts program start (state_with start.slots [] [] n (reads_of records) (chunks_of records))) all
-        ∙ ap (λ (l : List ℤ). parts program start (state_with l [] [] room (reads_of records) (chunks_of records))) (sym begun.slots)
-        ∙ ap (λ (l : List ℤ). parts program start (state_with first.slots [] [] room l (chunks_of records))) (sym (append-nil (reads_of records)))
-        ∙ ap (λ (l : List ℕ). parts program start (state_with first.slots [] [] room (reads_of records ++ []) l)) (sym (append-nil (chunks_of records)))
-        ∙ sym (begun.whole (state_with first.slots [] [] room (reads_of records ++ []) (chunks_of records ++ [])))
-        ∙ leads_here first x records forks come [] [] [] []
+        ap (λ (n : ℕ). parts program start (state_with start.slots [] [] n (reads_of records ++ reads) (chunks_of records ++ chunks))) all
+        ∙ ap (λ (l : List ℤ). parts program start (state_with l [] [] room (reads_of records ++ reads) (chunks_of records ++ chunks))) (sym begun.slots)
+        ∙ sym (begun.whole (state_with first.slots [] [] room (reads_of records ++ reads) (chunks_of records ++ chunks)))
+        ∙ leads_here first x records forks come [] [] reads chunks
+
+    task_here : task program start (reads_of records) (chunks_of records) ≡ stand_left x here
+    task_here =
+        ap (λ (l : List ℤ). task program start l (chunks_of records)) (sym (append-nil (reads_of records)))
+        ∙ ap (λ (l : List ℕ). task program start (reads_of records ++ []) l) (sym (append-nil (chunks_of records)))
+        ∙ task_from [] []
 
     begins_here : Begins start records forks
     begins_here =
