@@ -40,6 +40,13 @@ of_items name (x ∷ items) = at (name_eq x.step.name name) refl (of_items name 
       filter_no (λ (y : Item). name_eq y.name name) x.step (items_of items) other ∙ rest
       ∙ ap (λ (ys : List Marked). items_of ys) (sym (filter_no (λ (y : Marked). name_eq y.step.name name) x items other))
 
+-- the entries of a task are those of its log, in a tree that is timed too
+pub tree_known : (layout : WordLayout) (root : Work) (tree : TimedWork) → plain tree ≡ root
+    → (path : List Step) → task_entries path (entries_of (did_marked layout.word [] 0 [] 0 0 root)) ≡ entries_from path 0 (task_logs (plain tree) path)
+tree_known layout root tree plain_is path =
+    ap (λ (es : List Entry). task_entries path es) (did_entries layout.word [] 0 [] 0 0 root) ∙ tree_entries root path
+    ∙ ap (λ (w : Work). entries_from path 0 (task_logs w path)) (sym plain_is)
+
 module _ (layout : WordLayout) (root : Work) (sound : IsSound layout root) (memory words : List ℕ)
     (addresses : HasAddresses layout memory) (fitted : AreFitted layout memory words) (has : HasHistory (did layout.word [] 0 root) memory) where
   pub items : List Marked
@@ -82,17 +89,14 @@ module _ (layout : WordLayout) (root : Work) (sound : IsSound layout root) (memo
   unfolding items
   good = did_good layout [] 0 [] 0 0 root sound
 
-  known : (path : List Step) → task_entries path (entries_of items) ≡ entries_from path 0 (task_logs root path)
-  unfolding items
-  known path = ap (λ (es : List Entry). task_entries path es) (did_entries layout.word [] 0 [] 0 0 root) ∙ tree_entries root path
-
   -- from here on of the timed tree
   module _ (tree : TimedWork) (plain_is : plain tree ≡ root) (timed : IsTimed history [] 0 0 0 (length history) tree) where
     tree_sound : IsSound layout (plain tree)
     tree_sound = subst (λ (w : Work). IsSound layout w) (sym plain_is) sound
 
-    tree_known : (path : List Step) → task_entries path (entries_of items) ≡ entries_from path 0 (task_logs (plain tree) path)
-    tree_known path = known path ∙ ap (λ (w : Work). entries_from path 0 (task_logs w path)) (sym plain_is)
+    known : (path : List Step) → task_entries path (entries_of items) ≡ entries_from path 0 (task_logs (plain tree) path)
+    unfolding items
+    known = tree_known layout root tree plain_is
 
     history_good : AreGood layout history
     history_good n x found = at (across history items each n x found) where
@@ -108,7 +112,7 @@ module _ (layout : WordLayout) (root : Work) (sound : IsSound layout root) (memo
 
     one_task : (m n : ℕ) (x y : Marked) (e f : Entry) → slice_get history m ≡ Some x → slice_get history n ≡ Some y → x.label ≡ e ∷ [] → y.label ≡ f ∷ [] → y.step.name ≡ x.step.name → f.node.path ≡ e.node.path
     one_task m n x y e f here there mine yours same =
-        let p = placed items history layout tree tree_sound 0 (length history) timed each tree_counts single tree_known m x e here mine in
+        let p = placed items history layout tree tree_sound 0 (length history) timed each tree_counts single known m x e here mine in
         p.hand n y there same f yours
 
     last_value : (word : ℕ) → word < length words → slice_index words word ≡ stored_value (layout.address word) (entries_of history)
@@ -129,12 +133,12 @@ module _ (layout : WordLayout) (root : Work) (sound : IsSound layout root) (memo
       is_history = record {
         full = task_logs root;
         is_released = is;
-        each = λ path. task_whole items history layout tree tree_sound 0 (length history) timed each tree_counts single tree_known path
+        each = λ path. task_whole items history layout tree tree_sound 0 (length history) timed each tree_counts single known path
             ∙ ap (λ (w : Work). entries_from path 0 (task_logs w path)) plain_is;
       };
       legal = legal_records layout history history_good one_task legal;
       order = λ before mid after x y same reaches.
-          respects items history layout tree tree_sound 0 (length history) timed each tree_counts single tree_known before mid after x y same
+          respects items history layout tree tree_sound 0 (length history) timed each tree_counts single known before mid after x y same
           (subst (λ (w : Work). HappensBefore (task_logs w) y.node x.node) (sym plain_is) (before_full logs (task_logs root) (released_on logs (task_logs root) is) y.node x.node reaches));
       memory = last_value;
     }

@@ -2,12 +2,11 @@
 use Rattle.std.proofs.Common.{◌≡◌, ◌⊎◌, inl, inr, refl, sym, ap, ◌∙◌, subst, ℕ, ◌<◌, List, [], ◌∷◌, length, Some, arith}
 use Rattle.std.specs.Prelude.{slice_get, slice_index}
 use Rattle.std.proofs.lemmas.List.{append-nil}
-use Rattle.sw_base.specs.declared.path.Step.{Step}
 use Rattle.log_format.specs.Fitting.{fit}
 use Rattle.log_format.proofs.FittedBits.{fit_zero}
 use Rattle.race_model.specs.Trace.{Logs}
 use Rattle.race_model.specs.Order.{HappensBefore}
-use Rattle.race_model.specs.History.{Entry, entries_from, task_entries, IsReleased, RespectsOrder, stored_value, stored_from}
+use Rattle.race_model.specs.History.{Entry, entries_from, IsReleased, RespectsOrder, stored_value, stored_from}
 use Rattle.step_history.specs.declared.item.Item.{Item}
 use Rattle.step_history.specs.History.{Legal, LegalAfter, value_at}
 use Rattle.step_history.specs.Labels.{labelled_of, items_of}
@@ -18,13 +17,13 @@ use Rattle.history_model.specs.Sound.{WordLayout, IsSound, HasAddresses, AreFitt
 use Rattle.history_laws.proofs.Counting.{counted_all}
 use Rattle.history_laws.proofs.GoodItems.{AreGood, good_single, did_good}
 use Rattle.history_laws.proofs.LabelledWork.{Marked, did_marked, marked_items}
-use Rattle.history_laws.proofs.LaneEntries.{tree_entries}
 use Rattle.history_laws.proofs.Legality.{values, legal_records}
 use Rattle.history_laws.proofs.LongerLogs.{before_full, released_on}
 use Rattle.history_laws.proofs.Ordered.{placed, respects}
 use Rattle.history_laws.proofs.TaskEntries.{entries_of, entries_in, did_entries}
 use Rattle.history_laws.proofs.TimedWork.{TimedWork, plain, IsTimed, IsHandOf, Timing}
 use Rattle.history_laws.proofs.Times.{hand_of, own_path, times}
+use Rattle.history_laws.proofs.TreeHistory.{tree_known}
 use Rattle.history_laws.proofs.Windows.{Window, named}
 use Rattle.serial_model.specs.Order.{ComesFirst, HasSerialHistory, HasSmallerLane, IsInSerialOrder}
 use Rattle.serial_model.specs.Serial.{IsSerial, Leaves}
@@ -64,24 +63,18 @@ module _ (layout : WordLayout) (root : Work) (sound : IsSound layout root) (join
   entries_are : entries_of items ≡ entries_in [] 0 0 root
   entries_are = did_entries layout.word [] 0 [] 0 0 root
 
-  known : (path : List Step) → task_entries path (entries_of items) ≡ entries_from path 0 (task_logs root path)
-  known path = ap (λ (es : List Entry). task_entries path es) entries_are ∙ tree_entries root path
-
   module _ (tree : TimedWork) (plain_is : plain tree ≡ root) (timed : IsTimed items [] 0 0 0 (length items) tree) where
     tree_sound : IsSound layout (plain tree)
     tree_sound = subst (λ (w : Work). IsSound layout w) (sym plain_is) sound
 
-    tree_known : (path : List Step) → task_entries path (entries_of items) ≡ entries_from path 0 (task_logs (plain tree) path)
-    tree_known path = known path ∙ ap (λ (w : Work). entries_from path 0 (task_logs w path)) (sym plain_is)
-
     in_order : RespectsOrder (task_logs root) (entries_of items)
     in_order =
         subst (λ (w : Work). RespectsOrder (task_logs w) (entries_of items)) plain_is
-        (respects items items layout tree tree_sound 0 (length items) timed (λ name. refl) (λ test. refl) (good_single layout items good) tree_known)
+        (respects items items layout tree tree_sound 0 (length items) timed (λ name. refl) (λ test. refl) (good_single layout items good) (tree_known layout root tree plain_is))
 
     one_task : (m n : ℕ) (x y : Marked) (e f : Entry) → slice_get items m ≡ Some x → slice_get items n ≡ Some y → x.label ≡ e ∷ [] → y.label ≡ f ∷ [] → y.step.name ≡ x.step.name → f.node.path ≡ e.node.path
     one_task m n x y e f here there mine yours same =
-        let p = placed items items layout tree tree_sound 0 (length items) timed (λ name. refl) (λ test. refl) (good_single layout items good) tree_known m x e here mine in
+        let p = placed items items layout tree tree_sound 0 (length items) timed (λ name. refl) (λ test. refl) (good_single layout items good) (tree_known layout root tree plain_is) m x e here mine in
         p.hand n y there same f yours
 
     last_value : (word : ℕ) → word < length words → slice_index words word ≡ stored_value (layout.address word) (entries_of items)
@@ -105,7 +98,7 @@ module _ (layout : WordLayout) (root : Work) (sound : IsSound layout root) (join
     has_serial logs is = record {
       legal = record {
         history = entries_of items;
-        is_history = record { full = task_logs root; is_released = is; each = known };
+        is_history = record { full = task_logs root; is_released = is; each = λ path. tree_known layout root tree plain_is path ∙ ap (λ (w : Work). entries_from path 0 (task_logs w path)) plain_is };
         legal = legal_records layout items good one_task legal;
         order = λ before mid after x y same reaches. in_order before mid after x y same (before_full logs (task_logs root) (released_on logs (task_logs root) is) y.node x.node reaches);
         memory = last_value;

@@ -92,12 +92,12 @@ EndsLast records = (prefix rest : List Record) (last r : Record) → last.kind �
 module _ (first : State) (end : Record) (none : first.records ≡ []) where
   before_end : (t : State) → Adds first t → EndsLast t.records
   before_end t adds prefix rest last r ends is =
-      none_quiet adds.added prefix last adds.quiet ends
+      none_quiet adds.added prefix last adds.is.0 ends
       (ap (λ (rs : List Record). slice_get rs (length prefix)) (sym (adds.records_are ∙ ap (λ (rs : List Record). rs ++ adds.added) none) ∙ is) ∙ get_seam prefix last (r ∷ rest))
 
   with_end : (t : State) → Adds first t → EndsLast (t.records ++ end ∷ [])
   with_end t adds prefix rest last r ends is =
-      none_quiet adds.added prefix last adds.quiet ends
+      none_quiet adds.added prefix last adds.is.0 ends
       (sym (get_left adds.added (end ∷ []) (length prefix) within) ∙ (ap (λ (rs : List Record). slice_get rs (length prefix)) whole ∙ get_seam prefix last (r ∷ rest)))
     where
       whole : adds.added ++ end ∷ [] ≡ prefix ++ last ∷ r ∷ rest
