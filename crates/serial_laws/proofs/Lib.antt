@@ -1,7 +1,10 @@
 pub mod Certainty
 mod Counted
+mod FewerReads
 mod Found
 pub mod Growing
+pub mod LaneTasks
+pub mod Lanes
 mod Lined
 mod Logged
 mod Puts

@@ -44,10 +44,10 @@ module _ (layout : ElementLayout) (by_log : layout.bound ≡ OfLog) (program : P
   -- ---- where a task stands still
 
   -- the records begin the task's trace, and these are the first regions that it forks
-  record Begins (start : Start) (records : List Record) (forks : List model.Fork) : Type 0 where
-    trace : BeginsTrace program start records
-    later : List model.Fork
-    forks_are : (own_trace program start records).forks ≡ forks ++ later
+  pub record Begins (start : Start) (records : List Record) (forks : List model.Fork) : Type 0 where
+    pub trace : BeginsTrace program start records
+    pub later : List model.Fork
+    pub forks_are : (own_trace program start records).forks ≡ forks ++ later
 
   leads_here : (first x : Stand) (records : List Record) (forks : List model.Fork) → Comes layout first x records forks
       → Leads (stand_left first) first.slots (room_of layout.bound first.progress) (stand_left x) x.slots (room_of layout.bound x.progress) records forks
@@ -83,7 +83,7 @@ module _ (layout : ElementLayout) (by_log : layout.bound ≡ OfLog) (program : P
         ∙ ap (λ (l : List ℕ). task program start (reads_of records ++ []) l) (sym (append-nil (chunks_of records)))
         ∙ task_from [] []
 
-    begins_here : Begins start records forks
+    pub begins_here : Begins start records forks
     begins_here =
         let grown = left_grows x here in
         record {
