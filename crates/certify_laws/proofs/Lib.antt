@@ -4,6 +4,5 @@ mod Once
 mod OneAnswer
 mod OneVerdict
 mod Opening
-mod Rooms
 mod Root
 mod TooMany

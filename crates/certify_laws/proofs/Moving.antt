@@ -26,7 +26,8 @@ use Rattle.serial_run.specs.Placing.{Bound, OfLog, OfRun, ElementLayout}
 use Rattle.serial_run.specs.Stepping.{Stand, Leads, Adds, stand_left}
 use Rattle.serial_steps.proofs.GoAlike.{ReadApart, GoAlike, AreSized, alike_past, forks_fixed, traces_go_alike}
 use Rattle.serial_team.specs.Stopping.{bounded}
-use Rattle.certify_laws.proofs.Rooms.{GoesOn, IsWanting, Roomy, goes_past, put-roomy, rest-roomy, roomy}
+use Rattle.serial_laws.proofs.TooLong.{wanting}
+use Rattle.serial_laws.proofs.Rooms.{GoesOn, Roomy, goes_past, put-roomy, rest-roomy, roomy}
 
 -- ---- records that find the words as they stand
 
@@ -358,14 +359,10 @@ module _ (layout : ElementLayout) (log : layout.bound ≡ OfLog) (program : Prog
           let stops = stop_no_want (traced program start (records ++ n.added)) why at two.1 in
           let both = stopped_within layout a b m.added n.added x.progress.words last.words other.words beyond.more (omega (arith, mine_left, left, none, lefts)) stops (finds_alike layout m.added x.progress.words last.words m.gains.finds)
           (subst (λ (w : List ℕ). Finds layout n.added w other.words) words n.gains.finds) (add_alike (records ++ m.added) (records ++ n.added) (m.added ++ beyond.more) n.added later_are two.0) in
-          at_end beyond.more stops (ap (λ (l : List Record). ending_of (traced program start (records ++ l))) both.0) (λ no_more. wants_told (traced program start (records ++ m.added)) (beyond.wants no_more)) both.1
+          at_end beyond.more stops (ap (λ (l : List Record). ending_of (traced program start (records ++ l))) both.0) (λ no_more. wanting (traced program start (records ++ m.added)) (beyond.wants no_more)) both.1
         where
           at_end : (more : List Record) → (ending_of (traced program start (records ++ n.added)) ≡ Wanting → ⊥) → ending_of (traced program start (records ++ n.added)) ≡ ending_of (traced program start (records ++ m.added))
               → (more ≡ [] → ending_of (traced program start (records ++ m.added)) ≡ Wanting) → GoAlike (ending_of (traced program start (records ++ m.added))) (ending_of (traced program start (records ++ n.added))) more [] → ⊥
           at_end [] stops same wants alike = stops (same ∙ wants refl)
           at_end (r ∷ more) stops same wants alike = stops alike
 
-          wants_told : (o : Outcome (Unit {0})) → IsWanting o → ending_of o ≡ Wanting
-          wants_told (Gives a s) is = absurd is
-          wants_told (Stops w k s) is = absurd is
-          wants_told (Wants s) is = refl

@@ -44,7 +44,7 @@ use Rattle.serial_team.proofs.Going.{lane_at}
 use Rattle.serial_team.specs.declared.member.Stage.TheVariants as stage
 use Rattle.serial_team.specs.Members.{Pool, pool_at, WholeLog, MemberValue, later, idle, path_in, logs_of_member, BeginsLane, BeginTeam}
 use Rattle.serial_team.specs.Running.{past_region, LaneRuns, TeamRuns, PhasesRun, DidRoot}
-use Rattle.serial_laws.specs.SerialRuns.{spelled}
+use Rattle.serial_laws.specs.SerialRuns.{EndsSerially, spelled}
 use Rattle.serial_laws.proofs.Lanes.{with_records, after_records, left_after, StandsAt, records_stand, accesses_go}
 use Rattle.serial_laws.proofs.Puts.{plain_finds}
 use Rattle.serial_laws.proofs.Root.{begin_agrees, of_element}
@@ -535,14 +535,6 @@ module _ (layout : ElementLayout) (by_log : layout.bound ≡ OfLog) (program : P
 
 -- ---- the root
 
--- These logs and words are those of the serial run, which ended.
-pub record EndsSerially (program : Program) (layout : ElementLayout) (room : ℕ) (logs : List WholeLog) (words : List ℕ) : Type 0 where
-  pub tasks : Trace
-  pub memory : ℕ → ℕ
-  pub goes : GoesSerially program room tasks memory Still.at_end
-  pub logs_are : logs ≡ map spelled tasks
-  pub words_are : (w : ℕ) → w < length words → slice_index words w ≡ memory (layout.words.address w)
-
 module _ (layout : ElementLayout) (by_log : layout.bound ≡ OfLog) (program : Program) (lawful : IsLawful program) (fixed : IsFixed program.main.body) (tells : TellsWords program.arrays layout) (left : ℕ) where
   is_placed : (w : ℕ) → w < layout.count → layout.words.word (layout.words.address w) ≡ w
   is_placed w less = (of_element layout program lawful tells w less).0
@@ -558,7 +550,7 @@ module _ (layout : ElementLayout) (by_log : layout.bound ≡ OfLog) (program : P
       let a = begin_agrees layout program lawful tells in
       record { stands = record { count = a.count; each = a.each; fits = a.fits }; left = refl }
 
-  pub root_ends : (logs : List WholeLog) (words : List ℕ) → DidRoot layout program left logs words → EndsSerially program layout left logs words
+  pub root_ends : (logs : List WholeLog) (words : List ℕ) → DidRoot layout program left logs words → EndsSerially program layout.words left logs words
   root_ends logs words r =
       let so = starts_so layout by_log program is_placed program.main (replicate program.slots (pos 0)) fixed [] 0 r.before r.begins in
       let w = lane_went layout by_log program is_placed [] (later r.before zeros) r.work r.after r.runs root_task (record { memory = λ addr. 0; left = left }) refl

@@ -9,12 +9,12 @@ mod Lined
 mod Logged
 mod Puts
 pub mod Root
-mod Rooms
+pub mod Rooms
 mod Shapes
 mod Stopped
 mod StoppedRoot
 mod StoppedTasks
-mod TooLong
+pub mod TooLong
 mod Traced
 mod Undrawn
 mod WholeTasks

@@ -21,7 +21,8 @@ use Rattle.serial_team.specs.Stopping.{bounded}
 use Rattle.serial_laws.proofs.Rooms.{IsWanting, GoesOn, Rooms, goes_past, put-roomy, rest-roomy, roomy}
 use Rattle.serial_laws.proofs.StoppedTasks.{task_from}
 
-wanting : (o : Outcome (Unit {0})) → IsWanting o → ending_of o ≡ Wanting
+-- the trace wants a value
+pub wanting : (o : Outcome (Unit {0})) → IsWanting o → ending_of o ≡ Wanting
 wanting (Gives u s) wants = absurd wants
 wanting (Stops why line s) wants = absurd wants
 wanting (Wants s) wants = refl
