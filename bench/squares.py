@@ -1,10 +1,10 @@
 #!/usr/bin/env python3
-"""Times `check` of folders that ask for as much work as their size allows, each at three sizes, of which the next is twice the last.
+"""Times `check` and `explain` of folders that ask for as much work as their size allows, each at three sizes, of which the next is twice the last.
 
 The shapes: two logs of writes at a line of their own each, and the same at one line; one line under many sets of mutexes in each of 64
 lanes; many barrier intervals in one region; many regions of one lane, or two, each; lanes in four nested levels; one element that is read at
 many lines of one lane and written in another; runs that begin at one byte with strides that grow. Work that grows with the size takes
-2 times as long at the next size, and work that grows with its square 4 times.
+2 times as long at the next size, and work that grows with its square 4 times. `explain` is asked for line 2 with itself.
 
 usage: squares.py [N [PLAIN]], at the top of the repository, after `./sword` was built; N is 20000 where it isn't told. PLAIN is another
 checker, which is given the folder and timed beside.
@@ -135,7 +135,7 @@ def main():
     plain = sys.argv[2] if len(sys.argv) > 2 else None
     with tempfile.TemporaryDirectory() as place:
         for shape in SHAPES:
-            before = None
+            before = asked = None
             for times in SIZES:
                 folder = os.path.join(place, f"{shape.__name__}{times}")
                 put(folder, shape(base * times))
@@ -145,11 +145,14 @@ def main():
                 told = f"{shape.__name__}, {size:.1f} MB: status {status}, {seconds:.3f} s by four workers, {alone:.3f} by one"
                 if before:
                     told += f", {seconds / before:.1f} times"
-                told += f", {megabytes} MB at most"
+                explained = least([PROGRAM, "explain", folder, "2", "2"])[0]
+                told += f", {megabytes} MB at most; `explain` {explained:.3f} s"
+                if before:
+                    told += f", {explained / asked:.1f} times"
                 if plain:
                     told += f"; the other {least([plain, folder])[0]:.3f} s"
                 print(told, flush=True)
-                before = seconds
+                before, asked = seconds, explained
 
 
 if __name__ == "__main__":

@@ -9,9 +9,10 @@ use Rattle.log_format.specs.declared.record.Record.{Record}
 use Rattle.log_format.specs.declared.record.Kind.{Kind}
 use Rattle.log_format.specs.declared.record.Kind.TheVariants as kind
 use Rattle.race_model.specs.ForkJoin.{IsTask, IsTaskTree, WasForked}
-use Rattle.race_model.specs.Order.{IsLane, Edge, HappensBefore}
+use Rattle.race_model.specs.Order.{IsLane, HappensBefore}
 use Rattle.race_model.specs.Trace.{Logs, Node, IsThere, HasKind, record_at, regions_before, barriers_before, region_count, barrier_count}
 use Rattle.race_model.proofs.TraceLogs.{all_at}
+use Rattle.race_laws.proofs.Chains.{enter}
 use Rattle.race_laws.proofs.Counts.{there, regions_after}
 use Rattle.race_laws.proofs.LabelPlace.{HasLast, has_last, is_region}
 use Rattle.race_laws.proofs.ProgramOrder.{node, happens_before_trans, program_order}
@@ -45,17 +46,6 @@ there_before logs _ _ (HappensBefore.step x y z edge rest) there_z = edge.from_t
 -- the path of a lane is longer
 pub lane_longer : (logs : Logs) (fork : Node) (lane span : ℕ) (path : List Step) → IsLane logs fork lane span path → length path ≡ length fork.path + 1
 lane_longer logs fork lane span path l = ap length l.child ∙ length_push fork.path _
-
--- into a lane
-pub enter : (logs : Logs) (fork x : Node) (lane span : ℕ) → IsLane logs fork lane span x.path → IsThere logs x → HappensBefore logs fork x
-enter logs fork x lane span l here =
-    HappensBefore.step fork (node x.path 0) x
-    (record {
-      from_there = there logs fork kind.Region (is_region logs fork lane span x.path l);
-      to_there = omega arith;
-      edge = Edge.fork (record { lane = lane; span = span; forked = l; first = refl });
-    })
-    (program_order logs (node x.path 0) x refl (omega arith) here)
 
 module _ (program : Program) (S T : Logs) (Lists : List Step → Type 0) (runs : AreRuns program S T Lists) where
   -- the task starts alike in both

@@ -17,8 +17,9 @@ use Rattle.kernel_model.specs.Iterations.{total_of, even_iterations, static_iter
 use Rattle.kernel_model.specs.Trace.{stored, branch, turns, each, shared, loop_end, forked, run}
 use Rattle.kernel_model.proofs.SingleSteps.{with_record}
 use Rattle.kernel_model.proofs.Steps.{kept-loaded, kept-put}
+use Rattle.kernel_rules.proofs.Adds.{adds_nothing}
 use Rattle.certainty_model.specs.Certain.{IsFixed, IsFixedSchedule}
-use Rattle.certainty_model.proofs.Pairs.{IsQuiet, Adds, adds_nothing, adds_record, adds_chain, adds_region, adds_plain, Own, with, IsEven, Pair, Pairs, then-value, then-run, gives-pairs, stops-pairs}
+use Rattle.certainty_model.proofs.Pairs.{IsQuiet, Adds, stays, adds_quiet, adds_region, adds_plain, Own, with, IsEven, Pair, Pairs, then-value, then-run, gives-pairs, stops-pairs}
 
 -- ---- records one by one
 
@@ -41,7 +42,7 @@ pair-put_in (suc room) r c p q plain even = Pair.gives tt (with_record r room c)
 
 put-pairs : (r : Record) → IsQuiet r.kind → is_region_kind r.kind ≡ false → Pairs (put r)
 unfolding put
-put-pairs r quiet plain = record { adds = λ s. kept-put Adds adds_plain r s (λ room is. adds_record r s _ quiet refl refl); pairs = λ c p q even. pair-put_in c.room r c p q plain even }
+put-pairs r quiet plain = record { adds = λ s. kept-put Adds adds_plain r s (λ room is. adds_quiet r s _ quiet refl refl); pairs = λ c p q even. pair-put_in c.room r c p q plain even }
 
 -- ---- terms
 
@@ -82,11 +83,11 @@ pair-values room v w reads other e site line c p q even (inr apart) = Pair.parts
 pair-read_in : (room : ℕ) (reads other : List ℤ) (e : Element) (site line : ℕ) (c : State) (p q : Own) → IsEven c
     → Pair (read_in room reads e site line (with c p)) (read_in room other e site line (with c q))
 pair-read_in zero reads other e site line c p q even = Pair.stops LogFull line c p q even
-pair-read_in (suc room) [] [] e site line c p q even = Pair.left_wants c p (Wants (with c q)) even (adds_nothing c (with c q) refl refl)
+pair-read_in (suc room) [] [] e site line c p q even = Pair.left_wants c p (Wants (with c q)) even (adds_nothing stays c (with c q) refl refl)
 pair-read_in (suc room) [] (w ∷ other) e site line c p q even =
-    Pair.left_wants c p (read_in (suc room) (w ∷ other) e site line (with c q)) even (adds_record (access kind.Read e site line (fitted w e.width)) c _ tt refl refl)
+    Pair.left_wants c p (read_in (suc room) (w ∷ other) e site line (with c q)) even (adds_quiet (access kind.Read e site line (fitted w e.width)) c _ tt refl refl)
 pair-read_in (suc room) (v ∷ reads) [] e site line c p q even =
-    Pair.right_wants c q (read_in (suc room) (v ∷ reads) e site line (with c p)) even (adds_record (access kind.Read e site line (fitted v e.width)) c _ tt refl refl)
+    Pair.right_wants c q (read_in (suc room) (v ∷ reads) e site line (with c p)) even (adds_quiet (access kind.Read e site line (fitted v e.width)) c _ tt refl refl)
 pair-read_in (suc room) (v ∷ reads) (w ∷ other) e site line c p q even =
     pair-values room v w reads other e site line c p q even (value_or_not (fitted v e.width) (fitted w e.width))
 
@@ -148,14 +149,14 @@ shared-pairs (Dynamic chunk) at line total turn fixed all = absurd fixed
 -- a variable is set, and then a part goes on
 assigned-pairs : (slot : ℕ) (v : ℤ) (part : State → Outcome (Unit {0})) → Pairs part → Pairs (λ s. part (assign slot v s))
 assigned-pairs slot v part later = record {
-  adds = λ s. adds_chain s (assign slot v s) _ (adds_plain.assigns slot v s) (later.adds (assign slot v s));
+  adds = λ s. adds_plain.chain s (assign slot v s) _ (adds_plain.assigns slot v s) (later.adds (assign slot v s));
   pairs = λ c p q even. later.pairs (assign slot v c) p q even;
 }
 
 module _ (team : TeamTree) (fixed : IsFixed team.body) (rest : State → Outcome (Unit {0})) (later : Pairs rest) where
   adds-fork : (room : ℕ) (s : State) → Adds s (state_of (after (put_in room (event kind.Region team.line 0 team.span) s) (λ t. rest (forked team t))))
   adds-fork zero s = adds_plain.same s
-  adds-fork (suc room) s = adds_chain s (forked team (with_record (event kind.Region team.line 0 team.span) room s)) _ (adds_region team room s fixed) (later.adds _)
+  adds-fork (suc room) s = adds_plain.chain s (forked team (with_record (event kind.Region team.line 0 team.span) room s)) _ (adds_region team room s fixed) (later.adds _)
 
   pair-fork : (room : ℕ) (c : State) (p q : Own) → IsEven c
       → Pair (after (put_in room (event kind.Region team.line 0 team.span) (with c p)) (λ t. rest (forked team t)))

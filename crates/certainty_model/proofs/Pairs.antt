@@ -1,8 +1,7 @@
 -- Two runs of a part of a task, from states that differ only in what will be read and drawn: they go on alike until they read different
 -- values of one element.
-use Rattle.std.proofs.Common.{◌≡◌, refl, ap, sym, ◌∙◌, subst, ℕ, List, [], ◌∷◌, ◌++◌, length, ℤ, All, append_assoc}
-use Rattle.std.proofs.lemmas.List.{append-nil}
-use Rattle.std.proofs.lemmas.List.Elements.{All-nil, All-cons, All-append}
+use Rattle.std.proofs.Common.{◌≡◌, refl, sym, subst, ℕ, List, [], ◌∷◌, ◌++◌, length, ℤ}
+use Rattle.std.proofs.lemmas.List.Elements.{All-nil, All-cons}
 use Rattle.kernel_syntax.specs.Tree.{TeamTree}
 use Rattle.log_format.specs.declared.record.Record.{Record}
 use Rattle.log_format.specs.declared.record.Kind.{Kind}
@@ -15,6 +14,7 @@ use Rattle.kernel_model.specs.Value.{Element, access}
 use Rattle.kernel_model.specs.Trace.{forked}
 use Rattle.kernel_model.proofs.SingleSteps.{with_record, KeepsPlainSteps}
 use Rattle.kernel_model.proofs.Steps.{kept-and_then}
+use Rattle.kernel_rules.proofs.Adds.{AddsSo, StaysSo, AreSo, adds_nothing, adds_record, adds_chain, each_stays, one_so}
 use Rattle.certainty_model.specs.Certain.{IsFixed}
 
 -- ---- what statements add
@@ -34,62 +34,35 @@ abbrev pub FixedFork : Fork → Type 0
 FixedFork f = IsFixed f.team.body
 
 -- only quiet records are added, and regions of fixed teams
-pub record Adds (s t : State) : Type 0 where
-  pub added : List Record
-  pub records_are : t.records ≡ s.records ++ added
-  pub quiet : All QuietRecord added
-  pub regions : List Fork
-  pub forks_are : t.forks ≡ s.forks ++ regions
-  pub fixed : All FixedFork regions
+abbrev pub Adds : State → State → Type 0
+Adds = AddsSo (AreSo QuietRecord FixedFork)
 
-pub adds_nothing : (s t : State) → t.records ≡ s.records → t.forks ≡ s.forks → Adds s t
-adds_nothing s t records forks = record {
-  added = [];
-  records_are = records ∙ sym (append-nil s.records);
-  quiet = All-nil QuietRecord;
-  regions = [];
-  forks_are = forks ∙ sym (append-nil s.forks);
-  fixed = All-nil FixedFork;
-}
+pub stays : StaysSo (AreSo QuietRecord FixedFork)
+stays = each_stays QuietRecord FixedFork
 
-pub adds_chain : (a b c : State) → Adds a b → Adds b c → Adds a c
-adds_chain a b c one more = record {
-  added = one.added ++ more.added;
-  records_are = more.records_are ∙ ap (λ l. l ++ more.added) one.records_are ∙ append_assoc a.records one.added more.added;
-  quiet = All-append QuietRecord one.added more.added one.quiet more.quiet;
-  regions = one.regions ++ more.regions;
-  forks_are = more.forks_are ∙ ap (λ l. l ++ more.regions) one.forks_are ∙ append_assoc a.forks one.regions more.regions;
-  fixed = All-append FixedFork one.regions more.regions one.fixed more.fixed;
-}
-
-pub adds_record : (r : Record) (s t : State) → IsQuiet r.kind → t.records ≡ s.records ++ r ∷ [] → t.forks ≡ s.forks → Adds s t
-adds_record r s t quiet records forks = record {
-  added = r ∷ [];
-  records_are = records;
-  quiet = All-cons QuietRecord r [] quiet (All-nil QuietRecord);
-  regions = [];
-  forks_are = forks ∙ sym (append-nil s.forks);
-  fixed = All-nil FixedFork;
-}
+pub adds_quiet : (r : Record) (s t : State) → IsQuiet r.kind → t.records ≡ s.records ++ r ∷ [] → t.forks ≡ s.forks → Adds s t
+adds_quiet r s t quiet = adds_record r s t (one_so QuietRecord FixedFork r quiet)
 
 pub adds_region : (team : TeamTree) (room : ℕ) (s : State) → IsFixed team.body → Adds s (forked team (with_record (event kind.Region team.line 0 team.span) room s))
 adds_region team room s fixed = record {
   added = event kind.Region team.line 0 team.span ∷ [];
   records_are = refl;
-  quiet = All-cons QuietRecord (event kind.Region team.line 0 team.span) [] tt (All-nil QuietRecord);
   regions = record { team = team; slots = s.slots } ∷ [];
   forks_are = refl;
-  fixed = All-cons FixedFork (record { team = team; slots = s.slots }) [] fixed (All-nil FixedFork);
+  is = (
+    All-cons QuietRecord (event kind.Region team.line 0 team.span) [] tt (All-nil QuietRecord),
+    All-cons FixedFork (record { team = team; slots = s.slots }) [] fixed (All-nil FixedFork),
+  );
 }
 
 pub adds_plain : KeepsPlainSteps Adds
 adds_plain = record {
-  same = λ s. adds_nothing s s refl refl;
-  chain = adds_chain;
-  assigns = λ slot v s. adds_nothing s (assign slot v s) refl refl;
-  writes = λ r room s is write. adds_record r s _ (subst IsQuiet (sym write) tt) refl refl;
-  reads = λ e site line room v reads s is prefix. adds_record (access kind.Read e site line (fitted v e.width)) s _ tt refl refl;
-  draws = λ line n room q chunks s is prefix. adds_record _ s _ tt refl refl;
+  same = λ s. adds_nothing stays s s refl refl;
+  chain = adds_chain stays;
+  assigns = λ slot v s. adds_nothing stays s (assign slot v s) refl refl;
+  writes = λ r room s is write. adds_quiet r s _ (subst IsQuiet (sym write) tt) refl refl;
+  reads = λ e site line room v reads s is prefix. adds_quiet (access kind.Read e site line (fitted v e.width)) s _ tt refl refl;
+  draws = λ line n room q chunks s is prefix. adds_quiet _ s _ tt refl refl;
 }
 
 -- ---- pairs of runs
@@ -145,7 +118,7 @@ pub record Pairs {A : Type 0} (part : State → Outcome A) : Type 0 where
   pub pairs : (c : State) (p q : Own) → IsEven c → Pair (part (with c p)) (part (with c q))
 
 parts_later : (s t u v : State) → Parting s t → Adds s u → Adds t v → Parting u v
-parts_later s t u v d more other = record { cut = d.cut; left_adds = adds_chain _ s u d.left_adds more; right_adds = adds_chain _ t v d.right_adds other }
+parts_later s t u v d more other = record { cut = d.cut; left_adds = adds_plain.chain _ s u d.left_adds more; right_adds = adds_plain.chain _ t v d.right_adds other }
 
 module _ {A B : Type 0} (next : A → State → Outcome B) (later : (a : A) → Pairs (next a)) where
   goes_on : (m : Outcome A) → Adds (state_of m) (state_of (and_then m next))
@@ -154,8 +127,8 @@ module _ {A B : Type 0} (next : A → State → Outcome B) (later : (a : A) → 
   pair-and_then : (m o : Outcome A) → Pair m o → Pair (and_then m next) (and_then o next)
   pair-and_then _ _ (Pair.gives a c p q even) = (later a).pairs c p q even
   pair-and_then _ _ (Pair.stops why line c p q even) = Pair.stops why line c p q even
-  pair-and_then _ _ (Pair.left_wants c p o even adds) = Pair.left_wants c p (and_then o next) even (adds_chain c (state_of o) _ adds (goes_on o))
-  pair-and_then _ _ (Pair.right_wants c q o even adds) = Pair.right_wants c q (and_then o next) even (adds_chain c (state_of o) _ adds (goes_on o))
+  pair-and_then _ _ (Pair.left_wants c p o even adds) = Pair.left_wants c p (and_then o next) even (adds_plain.chain c (state_of o) _ adds (goes_on o))
+  pair-and_then _ _ (Pair.right_wants c q o even adds) = Pair.right_wants c q (and_then o next) even (adds_plain.chain c (state_of o) _ adds (goes_on o))
   pair-and_then _ _ (Pair.parts m o d) = Pair.parts (and_then m next) (and_then o next) (parts_later (state_of m) (state_of o) _ _ d (goes_on m) (goes_on o))
 
 -- one part after another

@@ -10,13 +10,14 @@ use Rattle.race_model.specs.ForkJoin.{IsTask, WasForked}
 use Rattle.race_model.specs.Listing.{lane_of}
 use Rattle.race_model.specs.Order.{IsLane, IsNext, IsForkEdge, IsJoinEdge, IsBarrierEdge, Edge, HasEdge, HappensBefore}
 use Rattle.race_model.specs.Trace.{Logs, Node, IsThere, HasKind, regions_before, barriers_before, barrier_count}
+use Rattle.race_laws.proofs.Chains.{enter}
 use Rattle.race_laws.proofs.Counts.{there, barriers_after, barrier_at, BarrierAt}
 use Rattle.race_laws.proofs.LabelPlace.{is_region, same_node, same_region, same_index}
 use Rattle.race_laws.proofs.ProgramOrder.{node, happens_before_trans, happens_before_edge}
 use Rattle.kernel_syntax.specs.Program.{Program}
 use Rattle.history_model.specs.Joined.{LastIsEnd}
 use Rattle.execution_model.specs.Execution.{HaveMet, HaveJoined}
-use Rattle.certainty_model.proofs.Descent.{AreRuns, there_before, lane_longer, enter, CalmBefore, calm_earlier, Agreed, agreed, same_kind, other_kind, same_record, same_regions, same_barriers}
+use Rattle.certainty_model.proofs.Descent.{AreRuns, there_before, lane_longer, CalmBefore, calm_earlier, Agreed, agreed, same_kind, other_kind, same_record, same_regions, same_barriers}
 
 -- a barrier is known by its task and its number
 same_barrier : (logs : Logs) (x y : Node) → HasKind logs x kind.Barrier → HasKind logs y kind.Barrier → x.path ≡ y.path → barriers_before logs x ≡ barriers_before logs y → x ≡ y

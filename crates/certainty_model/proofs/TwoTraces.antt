@@ -152,8 +152,8 @@ ends_in (suc room) last first t none no_fork is adds end = record {
   last = last;
   parts = ap (λ l. l ++ last ∷ []) (adds.records_are ∙ ap (λ l. l ++ adds.added) none);
   ends = is;
-  quiet = adds.quiet;
-  fixed = subst (All FixedFork) (sym (adds.forks_are ∙ ap (λ l. l ++ adds.regions) no_fork)) adds.fixed;
+  quiet = adds.is.0;
+  fixed = subst (All FixedFork) (sym (adds.forks_are ∙ ap (λ l. l ++ adds.regions) no_fork)) adds.is.1;
 }
 
 ends_of : (m : Outcome (Unit {0})) (last : Record) (first : State) → first.records ≡ [] → first.forks ≡ [] → last.kind ≡ kind.End → Adds first (state_of m) → ending_of (after m (put last)) ≡ Ended

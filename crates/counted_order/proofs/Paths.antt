@@ -13,12 +13,13 @@ use Rattle.race_model.specs.Race.{IsUnordered}
 use Rattle.race_model.specs.ForkJoin.{IsForkJoin}
 use Rattle.race_laws.proofs.FolderRules.{parted}
 use Rattle.race_laws.proofs.LabelPlace.{is_region, same_region}
+use Rattle.race_laws.proofs.Reaching.{above_there}
 use Rattle.counted_order.specs.Counting.{IsAbove, StandInTeam, AreBetweenBarriers}
 use Rattle.counted_order.specs.Parting.{PartBetweenBarriers}
 use Rattle.counted_order.proofs.Above.{HangsFrom, split}
 use Rattle.counted_order.proofs.Between.{between_unordered}
 use Rattle.counted_order.proofs.Parted.{forked, Level, level, unordered_between}
-use Rattle.counted_order.proofs.Reaching.{above_there}
+use Rattle.counted_order.proofs.Reaching.{under}
 
 -- two beginnings of one list that are as long are the same
 pub same_front : {X : Type 0} (xs ys more other : List X) → xs ++ more ≡ ys ++ other → length xs ≡ length ys → xs ≡ ys
@@ -149,9 +150,9 @@ module _ (logs : Logs) (x y : Node) (tree : IsForkJoin logs) (x_there : IsThere 
       let parts = p.parts in
       let mine = p.mine in
       let yours = p.yours in
-      let a = in_lane mine.above x (take p.level x.path) parts.step (drop (suc p.level) x.path) (above_there logs tree mine.above x mine.part x_there) mine.part
+      let a = in_lane mine.above x (take p.level x.path) parts.step (drop (suc p.level) x.path) (above_there logs mine.above x (under logs mine.above x mine.part) x_there) mine.part
       (mine.deep ∙ ap (λ n. n + 1) (sym (length_front x.path p.level parts.step parts.mine))) (parted x.path p.level parts.step parts.mine) in
-      let b = in_lane yours.above y (take p.level y.path) parts.beside (drop (suc p.level) y.path) (above_there logs tree yours.above y yours.part y_there) yours.part
+      let b = in_lane yours.above y (take p.level y.path) parts.beside (drop (suc p.level) y.path) (above_there logs yours.above y (under logs yours.above y yours.part) y_there) yours.part
       (yours.deep ∙ ap (λ n. n + 1) (sym (length_front y.path p.level parts.beside parts.yours))) (parted y.path p.level parts.beside parts.yours) in
       let forks : a.fork ≡ b.fork = same_region logs a.fork b.fork (is_region logs a.fork parts.step.lane a.span mine.above.path a.lane)
       (is_region logs b.fork parts.beside.lane b.span yours.above.path b.lane) (a.path_is ∙ (parts.shared ∙ sym b.path_is)) (a.number ∙ (parts.same_region ∙ sym b.number)) in

@@ -61,7 +61,8 @@ module _ (program : Program) (layout : WordLayout) (depth : ℕ) (root : Work) (
       begun = subst (λ (rs : List Record). BeginsTrace program r.begin rs) (sym (log_here path)) (begun_of program r.begin (works_of root path) r.task);
     }
 
-  released_at : IsReleased logs (task_logs root)
+  -- the logs are without the unlocks of what a task held when it stopped
+  pub released_at : IsReleased logs (task_logs root)
   released_at path = by_size (length (task_logs root path)) refl where
     of_records : AreReleased (task_logs root path) → (task_logs root path ≡ logs path) ⊎ (task_logs root path ≡ released (logs path))
     of_records (inl same) = inl (same ∙ sym (log_here path))

@@ -1,13 +1,12 @@
 -- The logs of a tree of work have a legal history where its hands have one.
 use Rattle.std.proofs.Common.{◌≡◌, refl, sym, ap, ◌∙◌, subst, ℕ, ◌<◌, Bool, true, false, List, [], ◌∷◌, ◌++◌, length, Some, arith}
-use Rattle.std.specs.Prelude.{slice_get, slice_index, filter}
+use Rattle.std.specs.Prelude.{slice_get, slice_index}
 use Rattle.std.proofs.lemmas.List.{append-nil}
 use Rattle.sw_base.specs.declared.path.Step.{Step}
 use Rattle.log_format.specs.Fitting.{fit}
 use Rattle.log_format.proofs.FittedBits.{fit_zero}
 use Rattle.race_model.specs.Trace.{Logs}
-use Rattle.race_model.specs.Order.{HappensBefore}
-use Rattle.race_model.specs.History.{Entry, entries_from, task_entries, IsReleased, HasLegalHistory, stored_value, stored_from}
+use Rattle.race_model.specs.History.{Entry, entries_from, task_entries, IsReleased, IsLegalHistory, RespectsOrder, HasLegalHistory, stored_value, stored_from}
 use Rattle.step_history.specs.declared.item.Item.{Item}
 use Rattle.step_history.specs.History.{Name, name_eq, of, Legal, value_at, HasHistory}
 use Rattle.history_model.specs.Work.{Work, task_logs}
@@ -40,105 +39,109 @@ of_items name (x ∷ items) = at (name_eq x.step.name name) refl (of_items name 
       filter_no (λ (y : Item). name_eq y.name name) x.step (items_of items) other ∙ rest
       ∙ ap (λ (ys : List Marked). items_of ys) (sym (filter_no (λ (y : Marked). name_eq y.step.name name) x items other))
 
+-- the entries of a task are those of its log, in a tree that is timed too
+tree_known : (layout : WordLayout) (root : Work) (tree : TimedWork) → plain tree ≡ root
+    → (path : List Step) → task_entries path (entries_of (did_marked layout.word [] 0 [] 0 0 root)) ≡ entries_from path 0 (task_logs (plain tree) path)
+tree_known layout root tree plain_is path =
+    ap (λ (es : List Entry). task_entries path es) (did_entries layout.word [] 0 [] 0 0 root) ∙ tree_entries root path
+    ∙ ap (λ (w : Work). entries_from path 0 (task_logs w path)) (sym plain_is)
+
+-- what the steps of a tree tell: each task's entries, legally, in an order that happens-before allows, and these words in the end
+pub record TellsTree (layout : WordLayout) (root : Work) (words : List ℕ) (history : List Entry) : Type 0 where
+  pub each : (path : List Step) → task_entries path history ≡ entries_from path 0 (task_logs root path)
+  pub legal : IsLegalHistory history
+  pub order : RespectsOrder (task_logs root) history
+  pub memory : (word : ℕ) → word < length words → slice_index words word ≡ stored_value (layout.address word) history
+
+abbrev pub legal_history : (layout : WordLayout) (root : Work) (words : List ℕ) (history : List Entry) (logs : Logs) → TellsTree layout root words history → IsReleased logs (task_logs root)
+    → HasLegalHistory logs layout.address words
+legal_history layout root words history logs tells is = record {
+  history = history;
+  is_history = record { full = task_logs root; is_released = is; each = tells.each };
+  legal = tells.legal;
+  order = λ before mid after x y same reaches. tells.order before mid after x y same (before_full logs (task_logs root) (released_on logs (task_logs root) is) y.node x.node reaches);
+  memory = tells.memory;
+}
+
 module _ (layout : WordLayout) (root : Work) (sound : IsSound layout root) (memory words : List ℕ)
-    (addresses : HasAddresses layout memory) (fitted : AreFitted layout memory words) (has : HasHistory (did layout.word [] 0 root) memory) where
-  pub items : List Marked
+    (addresses : HasAddresses layout memory) (fitted : AreFitted layout memory words)
+    (log : List Item) (labelled : IsLabelling log (did_marked layout.word [] 0 [] 0 0 root)) (legal_log : Legal log)
+    (ends : (word : ℕ) → word < length memory → slice_index memory word ≡ value_at word log) where
+  abbrev items : List Marked
   items = did_marked layout.word [] 0 [] 0 0 root
 
-  labelled : IsLabelling has.log items
-  unfolding items
-  labelled = labelling has.log items (λ name. has.whole name ∙ ap (λ (xs : List Item). of name xs) (sym (marked_items layout.word [] 0 [] 0 0 root)) ∙ of_items name items)
-
-  pub history : List Marked
+  abbrev history : List Marked
   history = labelled.history
 
-  each : (name : Name) → labelled_of name history ≡ labelled_of name items
-  unfolding history
-  each = labelled.each
-
   legal : Legal (items_of history)
-  unfolding history
-  legal = subst (λ (log : List Item). Legal log) (sym labelled.steps) has.legal
+  legal = subst (λ (steps : List Item). Legal steps) (sym labelled.steps) legal_log
 
   root_hand : IsHandOf history [] []
-  unfolding items
-  root_hand = hand_of layout.word history legal [] [] items (each []) (own_path layout.word [] 0 [] 0 0 root)
+  root_hand = hand_of layout.word history legal [] [] items (labelled.each []) (own_path layout.word [] 0 [] 0 0 root)
 
-  root_window : Window history [] 0 (split_count root) (did_marked layout.word [] 0 [] 0 0 root) [] [] 0 (length history)
-  unfolding items
+  root_window : Window history [] 0 (split_count root) items [] [] 0 (length history)
   root_window = record {
-    own = each [] ∙ sym (append-nil (labelled_of [] items));
-    below = λ pre j low high. each (pre ++ j ∷ []);
+    own = labelled.each [] ∙ sym (append-nil (labelled_of [] items));
+    below = λ pre j low high. labelled.each (pre ++ j ∷ []);
     fresh = λ n x found j lane span is. cc;
     ordered = omega arith;
     began = omega arith;
-    ended = let all = counted_all (named history []) history in let same = ap length (each []) in omega arith;
+    ended = let all = counted_all (named history []) history in let same = ap length (labelled.each []) in omega arith;
   }
 
   timing : Timing history [] 0 0 0 (length history) root
   timing = times layout.word history legal [] 0 [] 0 0 root [] [] 0 (length history) root_hand root_window
 
   good : AreGood layout items
-  unfolding items
   good = did_good layout [] 0 [] 0 0 root sound
 
-  known : (path : List Step) → task_entries path (entries_of items) ≡ entries_from path 0 (task_logs root path)
-  unfolding items
-  known path = ap (λ (es : List Entry). task_entries path es) (did_entries layout.word [] 0 [] 0 0 root) ∙ tree_entries root path
+  single : AreSingle items
+  single = good_single layout items good
 
   -- from here on of the timed tree
   module _ (tree : TimedWork) (plain_is : plain tree ≡ root) (timed : IsTimed history [] 0 0 0 (length history) tree) where
     tree_sound : IsSound layout (plain tree)
     tree_sound = subst (λ (w : Work). IsSound layout w) (sym plain_is) sound
 
-    tree_known : (path : List Step) → task_entries path (entries_of items) ≡ entries_from path 0 (task_logs (plain tree) path)
-    tree_known path = known path ∙ ap (λ (w : Work). entries_from path 0 (task_logs w path)) (sym plain_is)
-
     history_good : AreGood layout history
-    history_good n x found = at (across history items each n x found) where
+    history_good n x found = at (across history items labelled.each n x found) where
       at : Member items x → IsGood layout x
       at m = good m.place x m.found
 
-    single : AreSingle items
-    single = good_single layout items good
-
-    tree_counts : (test : Marked → Bool) → length (filter test history) ≡ length (filter test items)
-    unfolding history
-    tree_counts = labelled.counts
-
     one_task : (m n : ℕ) (x y : Marked) (e f : Entry) → slice_get history m ≡ Some x → slice_get history n ≡ Some y → x.label ≡ e ∷ [] → y.label ≡ f ∷ [] → y.step.name ≡ x.step.name → f.node.path ≡ e.node.path
     one_task m n x y e f here there mine yours same =
-        let p = placed items history layout tree tree_sound 0 (length history) timed each tree_counts single tree_known m x e here mine in
+        let p = placed items history layout tree tree_sound 0 (length history) timed labelled.each labelled.counts single (tree_known layout root tree plain_is) m x e here mine in
         p.hand n y there same f yours
 
     last_value : (word : ℕ) → word < length words → slice_index words word ≡ stored_value (layout.address word) (entries_of history)
-    unfolding history
     last_value word less =
         let within : word < length memory = omega (arith, fitted.count) in
         let here = addresses word within in
         fitted.each word within
-        ∙ ap (λ (v : ℕ). fit v (layout.width word)) (has.ends word within ∙ ap (λ (log : List Item). value_at word log) (sym labelled.steps))
-        ∙ ap (λ (w : ℕ). fit (value_at w (items_of labelled.history)) (layout.width w)) (sym here.0)
-        ∙ sym (values layout (layout.address word) (ap layout.address here.0) labelled.history 0 history_good)
-        ∙ ap (λ (v : ℕ). stored_from (layout.address word) (entries_of labelled.history) v)
+        ∙ ap (λ (v : ℕ). fit v (layout.width word)) (ends word within ∙ ap (λ (steps : List Item). value_at word steps) (sym labelled.steps))
+        ∙ ap (λ (w : ℕ). fit (value_at w (items_of history)) (layout.width w)) (sym here.0)
+        ∙ sym (values layout (layout.address word) (ap layout.address here.0) history 0 history_good)
+        ∙ ap (λ (v : ℕ). stored_from (layout.address word) (entries_of history) v)
         (ap (λ (w : ℕ). fit 0 (layout.width w)) here.0 ∙ fit_zero (layout.width word) here.1)
 
-    pub has_legal : (logs : Logs) → IsReleased logs (task_logs root) → HasLegalHistory logs layout.address words
-    has_legal logs is = record {
-      history = entries_of history;
-      is_history = record {
-        full = task_logs root;
-        is_released = is;
-        each = λ path. task_whole items history layout tree tree_sound 0 (length history) timed each tree_counts single tree_known path
-            ∙ ap (λ (w : Work). entries_from path 0 (task_logs w path)) plain_is;
-      };
+    tells : TellsTree layout root words (entries_of history)
+    tells = record {
+      each = λ path. task_whole items history layout tree tree_sound 0 (length history) timed labelled.each labelled.counts single (tree_known layout root tree plain_is) path
+          ∙ ap (λ (w : Work). entries_from path 0 (task_logs w path)) plain_is;
       legal = legal_records layout history history_good one_task legal;
-      order = λ before mid after x y same reaches.
-          respects items history layout tree tree_sound 0 (length history) timed each tree_counts single tree_known before mid after x y same
-          (subst (λ (w : Work). HappensBefore (task_logs w) y.node x.node) (sym plain_is) (before_full logs (task_logs root) (released_on logs (task_logs root) is) y.node x.node reaches));
+      order =
+          subst (λ (w : Work). RespectsOrder (task_logs w) (entries_of history)) plain_is
+          (respects items history layout tree tree_sound 0 (length history) timed labelled.each labelled.counts single (tree_known layout root tree plain_is));
       memory = last_value;
     }
 
-  -- the law of one history
-  pub tree_history : (logs : Logs) → IsReleased logs (task_logs root) → HasLegalHistory logs layout.address words
-  tree_history = has_legal timing.tree timing.plain_is timing.timed
+  pub tells_tree : TellsTree layout root words (entries_of labelled.history)
+  tells_tree = tells timing.tree timing.plain_is timing.timed
+
+-- the law of one history
+pub tree_history : (layout : WordLayout) (root : Work) → IsSound layout root → (memory words : List ℕ) → HasAddresses layout memory → AreFitted layout memory words
+    → HasHistory (did layout.word [] 0 root) memory → (logs : Logs) → IsReleased logs (task_logs root) → HasLegalHistory logs layout.address words
+tree_history layout root sound memory words addresses fitted has logs is =
+    let items = did_marked layout.word [] 0 [] 0 0 root in
+    let labelled = labelling has.log items (λ name. has.whole name ∙ ap (λ (xs : List Item). of name xs) (sym (marked_items layout.word [] 0 [] 0 0 root)) ∙ of_items name items) in
+    legal_history layout root words (entries_of labelled.history) logs (tells_tree layout root sound memory words addresses fitted has.log labelled has.legal has.ends) is

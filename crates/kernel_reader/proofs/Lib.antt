@@ -13,3 +13,4 @@ pub mod Refusing
 pub mod Texts
 pub mod Kernels
 pub mod Rowing
+pub mod Simple

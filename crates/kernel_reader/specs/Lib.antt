@@ -7,3 +7,4 @@ pub mod Naming
 pub mod Sections
 pub mod Folding
 pub mod Rows
+pub mod Simple

@@ -10,6 +10,7 @@ ghost use Rattle.kernel_text.specs.Grammar as grammar;
 ghost use Rattle.kernel_text.specs.Grammar.{Stmts, NoMore};
 ghost use Rattle.kernel_parser.specs.Trees.{tree_of, schedule_tree, stmt_before, stmts_of};
 ghost use Rattle.kernel_reader.specs.Scope.{slots};
+ghost use Rattle.kernel_reader.specs.Simple.{IsSimple};
 ghost use Rattle.kernel_reader.specs.Resolve.{sites, stmts_sites, term, slot_of, change, IsResolved};
 ghost use Rattle.kernel_reader.specs.Rules.{tree_faults, change_faults, stmts_faults};
 ghost use Rattle.kernel_reader.specs.Settled.{Settles};
@@ -301,6 +302,60 @@ impl Known<'_> {
         Ok((slot, from, to))
     }
 
+    /// A statement without a block.
+    fn simple_stmt(
+        &self,
+        state: &mut State,
+        section: Section,
+        stmt: &Statement,
+    ) -> Result<Added, ReadKernelFault>
+        requires few { length self.now.arrays.now ≤ 64 }
+        requires simple { IsSimple (stmt_before stmt.now NoMore) }
+        requires room { state.old.site + stmts_sites (stmt_before stmt.now NoMore) < 65536 }
+        requires slots { state.old.slot + slots (stmt_before stmt.now NoMore) ≤ 65536 }
+        ensures reads { (rest : Stmts) → IsFirstRead self.now.arrays.now self.now.mutexes.now state.old state.new section (stmt_before stmt.now rest) rest result }
+        ensures weight { IfOk result (λ x. x.weight ≡ 1) }
+        ensures variables { OnOk result (take (length state.old.variables.items) state.new.variables.items ≡ state.old.variables.items) }
+    {
+        match stmt {
+            Statement::Let {
+                name_line,
+                name,
+                value,
+                ..
+            } => Ok(plain(self.let_stmt(state, *name_line, name.copy(), value)?, false)),
+            Statement::Assign {
+                line,
+                name,
+                value,
+                ..
+            } => Ok(plain(self.assign_stmt(state, *line, name, value)?, false)),
+            Statement::Store {
+                line,
+                name,
+                index,
+                value,
+                ..
+            } => Ok(plain(self.store_stmt(state, *line, name, index, value)?, false)),
+            Statement::Update {
+                name_line,
+                name,
+                index,
+                minus,
+                value,
+                ..
+            } => Ok(plain(
+                self.update_stmt(state, *name_line, name, index, *minus, value)?,
+                false,
+            )),
+            Statement::Barrier { line } => {
+                section.check_shared(*line, KernelWhy::BarrierHere)?;
+                Ok(plain(made_barrier(*line), true))
+            }
+            _ => unreachable!(),
+        }
+    }
+
     /// `if` expr block
     #[cycle(statements)]
     fn if_stmt(
@@ -527,36 +582,6 @@ impl Known<'_> {
         ensures variables { OnOk result (take (length state.old.variables.items) state.new.variables.items ≡ state.old.variables.items) }
     {
         match stmt {
-            Statement::Let {
-                name_line,
-                name,
-                value,
-                ..
-            } => Ok(plain(self.let_stmt(state, *name_line, name.copy(), value)?, false)),
-            Statement::Assign {
-                line,
-                name,
-                value,
-                ..
-            } => Ok(plain(self.assign_stmt(state, *line, name, value)?, false)),
-            Statement::Store {
-                line,
-                name,
-                index,
-                value,
-                ..
-            } => Ok(plain(self.store_stmt(state, *line, name, index, value)?, false)),
-            Statement::Update {
-                name_line,
-                name,
-                index,
-                minus,
-                value,
-                ..
-            } => Ok(plain(
-                self.update_stmt(state, *name_line, name, index, *minus, value)?,
-                false,
-            )),
             Statement::If { test, yes, .. } => self.if_stmt(state, section, yes, test),
             Statement::IfElse { test, yes, no, .. } => {
                 self.if_else_stmt(state, section, yes, no, test)
@@ -575,10 +600,6 @@ impl Known<'_> {
                 nowait,
                 body,
             } => self.for_stmt(state, section, body, *line, range, *schedule, *nowait),
-            Statement::Barrier { line } => {
-                section.check_shared(*line, KernelWhy::BarrierHere)?;
-                Ok(plain(made_barrier(*line), true))
-            }
             Statement::Critical { line, body } => self.critical_stmt(state, section, body, *line),
             Statement::CriticalOf {
                 line,
@@ -586,6 +607,7 @@ impl Known<'_> {
                 body,
                 ..
             } => self.critical_of_stmt(state, section, body, *line, name),
+            _ => self.simple_stmt(state, section, stmt),
         }
     }
 

@@ -14,43 +14,30 @@ use Rattle.kernel_model.specs.Trace.{run, task, Start, Ended, ending_of, site_of
 use Rattle.kernel_model.specs.Folder.{own_trace, IsTraced}
 use Rattle.kernel_model.proofs.SingleSteps.{IsMark, KeepsBarriers, KeepsSteps}
 use Rattle.kernel_model.proofs.Steps.{kept-run}
+use Rattle.kernel_rules.proofs.Adds.{AddsSo, StaysSo, adds_nothing, adds_record, adds_chain}
 use Rattle.kernel_rules.proofs.LawfulRecords.{span_told, spans_of, spans_append, spans_forked}
 
 abbrev NotEnd : Record → Type 0
 NotEnd r = r.kind ≡ kind.End → ⊥
 
 -- what statements add: no End, and for each Region record its fork
-record Adds (s t : State) : Type 0 where
-  added : List Record
-  records_are : t.records ≡ s.records ++ added
-  goes_on : All NotEnd added
-  regions : List Fork
-  forks_are : t.forks ≡ s.forks ++ regions
-  spans : spans_of added ≡ spans_forked regions
+abbrev GoOn : List Record → List Fork → Type 0
+GoOn records forks = All NotEnd records × (spans_of records ≡ spans_forked forks)
 
-adds_nothing : (s t : State) → t.records ≡ s.records → t.forks ≡ s.forks → Adds s t
-adds_nothing s t records forks = record {
-  added = [];
-  records_are = records ∙ sym (append-nil s.records);
-  goes_on = All-nil NotEnd;
-  regions = [];
-  forks_are = forks ∙ sym (append-nil s.forks);
-  spans = refl;
+stays : StaysSo GoOn
+stays = record {
+  nothing = (All-nil NotEnd, refl);
+  both = λ rs more fs others is also. (
+    All-append NotEnd rs more is.0 also.0,
+    spans_append rs more
+        ∙ ap (λ l. l ++ spans_of more) is.1
+        ∙ ap (λ l. spans_forked fs ++ l) also.1
+        ∙ sym (map-append (λ (f : Fork). f.team.span) fs others),
+  );
 }
 
-adds_chain : (a b c : State) → Adds a b → Adds b c → Adds a c
-adds_chain a b c one more = record {
-  added = one.added ++ more.added;
-  records_are = more.records_are ∙ ap (λ l. l ++ more.added) one.records_are ∙ append_assoc a.records one.added more.added;
-  goes_on = All-append NotEnd one.added more.added one.goes_on more.goes_on;
-  regions = one.regions ++ more.regions;
-  forks_are = more.forks_are ∙ ap (λ l. l ++ more.regions) one.forks_are ∙ append_assoc a.forks one.regions more.regions;
-  spans =
-      spans_append one.added more.added
-      ∙ ap (λ l. l ++ spans_of more.added) one.spans
-      ∙ ap (λ l. spans_forked one.regions ++ l) more.spans
-      ∙ sym (map-append (λ (f : Fork). f.team.span) one.regions more.regions);
-}
+abbrev Adds : State → State → Type 0
+Adds = AddsSo GoOn
 
 -- a record that is neither End nor Region
 abbrev IsPlain : Kind → Type 0
@@ -73,14 +60,7 @@ plain_span kind.End value plain = absurd plain
 plain_span kind.Region value plain = absurd plain
 
 adds_plain : (r : Record) (s t : State) → IsPlain r.kind → t.records ≡ s.records ++ r ∷ [] → t.forks ≡ s.forks → Adds s t
-adds_plain r s t plain records forks = record {
-  added = r ∷ [];
-  records_are = records;
-  goes_on = All-cons NotEnd r [] (plain_goes_on r.kind plain) (All-nil NotEnd);
-  regions = [];
-  forks_are = forks ∙ sym (append-nil s.forks);
-  spans = ap (λ (o : Option ℕ). cons_option o []) (plain_span r.kind r.value plain);
-}
+adds_plain r s t plain = adds_record r s t (All-cons NotEnd r [] (plain_goes_on r.kind plain) (All-nil NotEnd), ap (λ (o : Option ℕ). cons_option o []) (plain_span r.kind r.value plain))
 
 mark_plain : (k : Kind) → IsMark k → IsPlain k
 mark_plain kind.Lock is = tt
@@ -90,9 +70,9 @@ mark_plain _ is = absurd is
 adds_steps : KeepsSteps Adds
 adds_steps = record {
   plain = record {
-    same = λ s. adds_nothing s s refl refl;
-    chain = adds_chain;
-    assigns = λ slot v s. adds_nothing s (assign slot v s) refl refl;
+    same = λ s. adds_nothing stays s s refl refl;
+    chain = adds_chain stays;
+    assigns = λ slot v s. adds_nothing stays s (assign slot v s) refl refl;
     writes = λ r room s is write. adds_plain r s _ (subst IsPlain (sym write) tt) refl refl;
     reads = λ e site line room v reads s is prefix. adds_plain (access kind.Read e site line (fitted v e.width)) s _ tt refl refl;
     draws = λ line n room q chunks s is prefix. adds_plain (event kind.Chunk line (min q n) n) s _ tt refl refl;
@@ -102,10 +82,9 @@ adds_steps = record {
   forks = λ team room s is. record {
     added = event kind.Region team.line 0 team.span ∷ [];
     records_are = refl;
-    goes_on = All-cons NotEnd (event kind.Region team.line 0 team.span) [] (λ same. cc) (All-nil NotEnd);
     regions = record { team = team; slots = s.slots } ∷ [];
     forks_are = refl;
-    spans = refl;
+    is = (All-cons NotEnd (event kind.Region team.line 0 team.span) [] (λ same. cc) (All-nil NotEnd), refl);
   };
 }
 
@@ -162,7 +141,7 @@ module _ (program : Program) (start : Start) (reads : List ℤ) (chunks : List �
   stopped : (t : State) (records rest : List Record) → Adds first t → t.records ≡ records ++ rest → EndsLast records → ⊥
   stopped t records rest adds begins ends =
       no_end_within ends.prefix rest ends.last
-      (subst (All NotEnd) (sym adds.records_are ∙ begins ∙ ap (λ l. l ++ rest) ends.parts ∙ append_assoc ends.prefix (ends.last ∷ []) rest) adds.goes_on) ends.ends
+      (subst (All NotEnd) (sym adds.records_are ∙ begins ∙ ap (λ l. l ++ rest) ends.parts ∙ append_assoc ends.prefix (ends.last ∷ []) rest) adds.is.0) ends.ends
 
   by_put : (t : State) (room : ℕ) (records rest : List Record) → Adds first t →
       (state_of (put_in room (event kind.End start.team.end 0 0) t)).records ≡ records ++ rest → EndsLast records → EndsSo (put_in room (event kind.End start.team.end 0 0) t) records
@@ -171,14 +150,14 @@ module _ (program : Program) (start : Start) (reads : List ℤ) (chunks : List �
       let e = event kind.End start.team.end 0 0 in
       let same : adds.added ++ e ∷ [] ≡ ends.prefix ++ ends.last ∷ rest =
       ap (λ l. l ++ e ∷ []) (sym adds.records_are) ∙ begins ∙ ap (λ l. l ++ rest) ends.parts ∙ append_assoc ends.prefix (ends.last ∷ []) rest in
-      let none = nothing_after adds.added ends.prefix rest e ends.last same adds.goes_on ends.ends in
+      let none = nothing_after adds.added ends.prefix rest e ends.last same adds.is.0 ends.ends in
       let all = begins ∙ ap (λ l. records ++ l) none ∙ append-nil records in
       record {
         rest = all;
         ended = refl;
         spans =
             ap spans_of (sym all) ∙ spans_append t.records (e ∷ []) ∙ append-nil (spans_of t.records)
-            ∙ ap spans_of adds.records_are ∙ adds.spans ∙ ap spans_forked (sym adds.forks_are);
+            ∙ ap spans_of adds.records_are ∙ adds.is.1 ∙ ap spans_forked (sym adds.forks_are);
       }
 
   by_body : (m : Outcome (Unit {0})) (records rest : List Record) → Adds first (state_of m) →

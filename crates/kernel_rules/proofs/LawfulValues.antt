@@ -1,11 +1,10 @@
 -- The values of a lawful task are of 64 bits, and what it records where it ends is of the table.
-use Rattle.std.proofs.Common.{◌≡◌, refl, ap, sym, ◌∙◌, subst, ℕ, zero, suc, ◌+◌, ◌-◌, ◌*◌, ◌/◌, ◌%◌, ◌^◌, ◌<◌, ◌≤◌, min, Bool, true, false, cond, nat_lt, List, [], ◌∷◌, ◌++◌, append_assoc, slice_index_or, ℤ, pos, negsuc, ◌+ℤ◌, ◌-ℤ◌, ◌≤ℤ◌, Option, Some, None, IfSome, All, FitsSigned, w64, arith, le_refl}
+use Rattle.std.proofs.Common.{◌≡◌, refl, sym, subst, ℕ, zero, suc, ◌+◌, ◌-◌, ◌*◌, ◌/◌, ◌%◌, ◌^◌, ◌<◌, ◌≤◌, min, Bool, true, false, cond, nat_lt, List, [], ◌∷◌, slice_index_or, ℤ, pos, negsuc, ◌+ℤ◌, ◌-ℤ◌, ◌≤ℤ◌, Option, Some, None, IfSome, All, FitsSigned, w64, arith, le_refl}
 use Rattle.std.specs.Prelude.{◌==◌}
 use Rattle.std.specs.List.{range_with_len}
 use Rattle.std.specs.Int.RustNames.{int_rem}
 use Rattle.std.proofs.lemmas.Int.{ints}
-use Rattle.std.proofs.lemmas.List.{append-nil}
-use Rattle.std.proofs.lemmas.List.Elements.{All-nil, All-cons, All-append, All-head, All-tail, All-set, All-filter}
+use Rattle.std.proofs.lemmas.List.Elements.{All-nil, All-cons, All-head, All-tail, All-set, All-filter}
 use Rattle.std.proofs.lemmas.Nat.{div-add-mod', mul-le}
 use Rattle.log_format.specs.declared.format.TheConstants.{FORMAT}
 use Rattle.log_format.specs.declared.record.Record.{Record}
@@ -31,6 +30,7 @@ use Rattle.kernel_model.specs.Iterations.{count_of, total_of, even_iterations, s
 use Rattle.kernel_model.specs.Trace.{stored, updated, amount_of, branch, turns, each, draw, draw_in, draws, shared, loop_end, forked, run, task, Start, site_of, state_at, Ended, ending_of}
 use Rattle.kernel_model.specs.Folder.{IsTraced, own_trace}
 use Rattle.kernel_model.specs.Lawful.{TermFits, CodeFits}
+use Rattle.kernel_rules.proofs.Adds.{AddsSo, StaysSo, AreSo, adds_nothing, adds_record, adds_fork, adds_chain, each_stays, one_so, fork_so}
 use Rattle.kernel_rules.proofs.LawfulRecords.{IfGives}
 use Rattle.kernel_model.proofs.Turns.{share_within}
 use Rattle.kernel_rules.proofs.Tabled.{IsPlacedElement, placed_element, tabled_read, tabled_write, tabled_update, tabled_barrier, tabled_end, tabled_region, tabled_lock, tabled_unlock, tabled_chunk}
@@ -157,53 +157,21 @@ pub record IsValueFork (f : Fork) : Type 0 where
   pub ends : IsLine f.team.end
   pub span : IsSpan f.team.span
 
-pub record Adds (s t : State) : Type 0 where
-  pub added : List Record
-  pub records_are : t.records ≡ s.records ++ added
-  pub tabled : All (IsTabled FORMAT) added
-  pub regions : List Fork
-  pub forks_are : t.forks ≡ s.forks ++ regions
-  pub begin : All IsValueFork regions
+abbrev HasTabled : List Record → List Fork → Type 0
+HasTabled = AreSo (IsTabled FORMAT) IsValueFork
 
-adds_chain : (s t u : State) → Adds s t → Adds t u → Adds s u
-adds_chain s t u one more = record {
-  added = one.added ++ more.added;
-  records_are = more.records_are ∙ ap (λ l. l ++ more.added) one.records_are ∙ append_assoc s.records one.added more.added;
-  tabled = All-append (IsTabled FORMAT) one.added more.added one.tabled more.tabled;
-  regions = one.regions ++ more.regions;
-  forks_are = more.forks_are ∙ ap (λ l. l ++ more.regions) one.forks_are ∙ append_assoc s.forks one.regions more.regions;
-  begin = All-append IsValueFork one.regions more.regions one.begin more.begin;
-}
-
-adds_nothing : (s t : State) → t.records ≡ s.records → t.forks ≡ s.forks → Adds s t
-adds_nothing s t records forks = record {
-  added = [];
-  records_are = records ∙ sym (append-nil s.records);
-  tabled = All-nil (IsTabled FORMAT);
-  regions = [];
-  forks_are = forks ∙ sym (append-nil s.forks);
-  begin = All-nil IsValueFork;
-}
-
-adds_record : (r : Record) (s t : State) → IsTabled FORMAT r → t.records ≡ s.records ++ r ∷ [] → t.forks ≡ s.forks → Adds s t
-adds_record r s t tabled records forks = record {
-  added = r ∷ [];
-  records_are = records;
-  tabled = All-cons (IsTabled FORMAT) r [] tabled (All-nil (IsTabled FORMAT));
-  regions = [];
-  forks_are = forks ∙ sym (append-nil s.forks);
-  begin = All-nil IsValueFork;
-}
+stays : StaysSo HasTabled
+stays = each_stays (IsTabled FORMAT) IsValueFork
 
 -- where a part gives a value: the value, the locals, and what was added
 abbrev pub Does : {A : Type 0} → (A → Type 0) → State → Outcome A → Type 0
-Does P s m = IfGives m (λ a t. P a × AreValues t.slots × Adds s t)
+Does P s m = IfGives m (λ a t. P a × AreValues t.slots × AddsSo HasTabled s t)
 
 abbrev pub Any : Unit {0} → Type 0
 Any u = Unit {0}
 
-does_chain : {A : Type 0} (P : A → Type 0) (s t : State) (m : Outcome A) → Adds s t → Does P t m → Does P s m
-does_chain P s t (Gives a u) one does = (does.0, does.1, adds_chain s t u one does.2)
+does_chain : {A : Type 0} (P : A → Type 0) (s t : State) (m : Outcome A) → AddsSo HasTabled s t → Does P t m → Does P s m
+does_chain P s t (Gives a u) one does = (does.0, does.1, adds_chain stays s t u one does.2)
 does_chain P s t (Stops why line u) one does = tt
 does_chain P s t (Wants u) one does = tt
 
@@ -220,11 +188,11 @@ does_after s (Stops why line t) next first later = tt
 does_after s (Wants t) next first later = tt
 
 does_nothing : (s : State) → AreValues s.slots → Does Any s (Gives tt s)
-does_nothing s slots = (tt, slots, adds_nothing s s refl refl)
+does_nothing s slots = (tt, slots, adds_nothing stays s s refl refl)
 
 does_put_in : (room : ℕ) (r : Record) (s : State) → IsTabled FORMAT r → AreValues s.slots → Does Any s (put_in room r s)
 does_put_in zero r s tabled slots = tt
-does_put_in (suc room) r s tabled slots = (tt, slots, adds_record r s _ tabled refl refl)
+does_put_in (suc room) r s tabled slots = (tt, slots, adds_record r s _ (one_so (IsTabled FORMAT) IsValueFork r tabled) refl refl)
 
 pub does_put : (r : Record) (s : State) → IsTabled FORMAT r → AreValues s.slots → Does Any s (put r s)
 unfolding put
@@ -233,7 +201,7 @@ does_put r s tabled slots = does_put_in s.room r s tabled slots
 does_assigned : (slot : ℕ) (v : ℤ) (s : State) (m : Outcome (Unit {0})) → IsValue v → AreValues s.slots →
     (AreValues (assign slot v s).slots → Does Any (assign slot v s) m) → Does Any s m
 does_assigned slot v s m fits slots does =
-    does_chain Any s (assign slot v s) m (adds_nothing s (assign slot v s) refl refl) (does (All-set IsValue s.slots slot v fits slots))
+    does_chain Any s (assign slot v s) m (adds_nothing stays s (assign slot v s) refl refl) (does (All-set IsValue s.slots slot v fits slots))
 
 does_branch : (v : ℤ) (if_true if_false : State → Outcome (Unit {0})) (s : State) → Does Any s (if_true s) → Does Any s (if_false s) →
     Does Any s (branch v if_true if_false s)
@@ -261,7 +229,7 @@ does_draw_in : (room : ℕ) (chunks : List ℕ) (line n : ℕ) (s : State) → I
     Does AnyNumber s (draw_in room chunks line n s)
 does_draw_in zero chunks line n s is small slots = tt
 does_draw_in (suc room) [] line n s is small slots = tt
-does_draw_in (suc room) (q ∷ chunks) line n s is small slots = (tt, slots, adds_record _ s _ (tabled_chunk line q n is small) refl refl)
+does_draw_in (suc room) (q ∷ chunks) line n s is small slots = (tt, slots, adds_record _ s _ (one_so (IsTabled FORMAT) IsValueFork _ (tabled_chunk line q n is small)) refl refl)
 
 does_draw : (line n : ℕ) (s : State) → IsLine line → n < 2 ^ 64 → AreValues s.slots → Does AnyNumber s (draw line n s)
 unfolding draw
@@ -287,7 +255,7 @@ module _ (at : Site) (words : ℕ) (placed : ArePlaced at.arrays words) (within 
   does_read_in zero reads e line site s there place slots = tt
   does_read_in (suc room) [] e line site s there place slots = tt
   does_read_in (suc room) (v ∷ reads) e line site s there place slots =
-      (fitted_fits v e.width there.width, slots, adds_record _ s _ (tabled_read e site line v there place) refl refl)
+      (fitted_fits v e.width there.width, slots, adds_record _ s _ (one_so (IsTabled FORMAT) IsValueFork _ (tabled_read e site line v there place)) refl refl)
 
   does_loaded : (e : Option Element) (line site : ℕ) (s : State) → IfSome e IsPlacedElement → IsPlace line site → AreValues s.slots →
       Does IsValue s (loaded e line site s)
@@ -297,20 +265,20 @@ module _ (at : Site) (words : ℕ) (placed : ArePlaced at.arrays words) (within 
 
   does_operated : (o : Option ℤ) (line : ℕ) (s : State) → IsResult o → AreValues s.slots → Does IsValue s (operated o line s)
   does_operated None line s fits slots = tt
-  does_operated (Some v) line s fits slots = (fits, slots, adds_nothing s s refl refl)
+  does_operated (Some v) line s fits slots = (fits, slots, adds_nothing stays s s refl refl)
 
   does_value : (e : Term) (s : State) → TermFits e → IsBoundedTerm e → AreValues s.slots → Does IsValue s (value at e s)
   unfolding value
-  does_value (Number n) s fits bounded slots = (fits, slots, adds_nothing s s refl refl)
-  does_value (Slot k) s fits bounded slots = (slot_value s.slots k slots, slots, adds_nothing s s refl refl)
-  does_value Tid s fits bounded slots = (small_value at.lane (omega arith), slots, adds_nothing s s refl refl)
-  does_value Span s fits bounded slots = (small_value at.span (omega arith), slots, adds_nothing s s refl refl)
+  does_value (Number n) s fits bounded slots = (fits, slots, adds_nothing stays s s refl refl)
+  does_value (Slot k) s fits bounded slots = (slot_value s.slots k slots, slots, adds_nothing stays s s refl refl)
+  does_value Tid s fits bounded slots = (small_value at.lane (omega arith), slots, adds_nothing stays s s refl refl)
+  does_value Span s fits bounded slots = (small_value at.span (omega arith), slots, adds_nothing stays s s refl refl)
   does_value (Load array index line site) s fits bounded slots =
       does_and_then IsValue IsValue s (value at index s) _ (does_value index s fits bounded.1 slots) (λ i t found there.
       does_loaded (element_at at.arrays array i) line site t (placed_element at.arrays words array i placed) bounded.0 there)
   does_value (Neg operand) s fits bounded slots =
       does_and_then IsValue IsValue s (value at operand s) _ (does_value operand s fits bounded slots) (λ v t is there.
-      (word_value _, there, adds_nothing t t refl refl))
+      (word_value _, there, adds_nothing stays t t refl refl))
   does_value (Binary op line left right) s fits bounded slots =
       does_and_then IsValue IsValue s (value at left s) _ (does_value left s fits.0 bounded.1 slots) (λ x t is there.
       does_and_then IsValue IsValue t (value at right t) _ (does_value right t fits.1 bounded.2 there) (λ y u also then.
@@ -345,15 +313,8 @@ module _ (at : Site) (words : ℕ) (placed : ArePlaced at.arrays words) (within 
       (AreValues (forked team s).slots → Does Any (forked team s) (next (forked team s))) → Does Any s (next (forked team s))
   does_forked team s next fork later = does_chain Any s (forked team s) (next (forked team s)) adds (later fork.slots)
     where
-      adds : Adds s (forked team s)
-      adds = record {
-        added = [];
-        records_are = sym (append-nil s.records);
-        tabled = All-nil (IsTabled FORMAT);
-        regions = record { team = team; slots = s.slots } ∷ [];
-        forks_are = refl;
-        begin = All-cons IsValueFork (record { team = team; slots = s.slots }) [] fork (All-nil IsValueFork);
-      }
+      adds : AddsSo HasTabled s (forked team s)
+      adds = adds_fork s (forked team s) (record { team = team; slots = s.slots }) (fork_so (IsTabled FORMAT) IsValueFork _ fork) refl refl
 
   -- What a lawful body records where it ends is of the table, and its locals are values, and those of its regions.
   pub does_run : (code : Code) (s : State) → CodeFits code → IsBoundedCode code → AreValues s.slots → Does Any s (run at code s)
@@ -445,8 +406,8 @@ module _ (program : Program) (bounded : IsBounded program) (start : Start) (begi
   where_it_ends : (reads : List ℤ) (chunks : List ℕ) (m : Outcome (Unit {0})) → Does Any (state_at start reads chunks) m → ending_of m ≡ Ended →
       HasValues (state_of m).records (state_of m).forks
   where_it_ends reads chunks (Gives a t) does ends = record {
-    tabled = subst (All (IsTabled FORMAT)) (sym does.2.records_are) does.2.tabled;
-    begin = subst (All IsValueFork) (sym does.2.forks_are) does.2.begin;
+    tabled = subst (All (IsTabled FORMAT)) (sym does.2.records_are) does.2.is.0;
+    begin = subst (All IsValueFork) (sym does.2.forks_are) does.2.is.1;
   }
   where_it_ends reads chunks (Stops why line t) does ends = absurd cc
   where_it_ends reads chunks (Wants t) does ends = absurd cc

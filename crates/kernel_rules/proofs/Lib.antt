@@ -1,3 +1,4 @@
+pub mod Adds
 pub mod LawfulFolder
 pub mod LawfulValues
 pub mod LawfulRecords

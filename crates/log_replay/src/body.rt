@@ -11,6 +11,7 @@ ghost use Rattle.kernel_model.specs.Drawing.{turn_from, draw_all, draw_once};
 ghost use Rattle.kernel_model.specs.Iterations.{chunk_count, chunk_iterations, static_iterations, total_of};
 ghost use Rattle.kernel_model.specs.Trace.{changed, each, loop_end, run, shared, turns};
 ghost use Rattle.kernel_model.specs.Value.{element_at};
+ghost use Rattle.task_place.specs.Assigning.{IsAssignment};
 ghost use Rattle.log_replay.specs.Following.{FollowsPart};
 ghost use Rattle.log_replay.specs.Forks.{standing};
 ghost use Rattle.log_replay.specs.Sharing.{sharing};
@@ -90,6 +91,60 @@ impl<'k> ReplayLane<'k> {
         let number = self.value(expr, alloc, folder, place)?;
         let amount = change.amount(number);
         self.put_value(alloc, folder, place, change, array, at, amount, line, site)
+    }
+
+    /// Runs an assignment to a variable or an element.
+    fn assignment<F: Folder>(
+        &mut self,
+        stmt: &Stmt,
+        alloc: Global,
+        folder: &mut F,
+        place: &TaskPlace,
+    ) -> Result<(), Stray>
+        requires assigns { IsAssignment (stmt_code stmt.now Done) }
+        ensures follows { FollowsPart (F.state folder.old) (run place.now (stmt_code stmt.now Done)) (standing self.old) (standing self.new) result }
+        ensures fewer { IfOk result (λ _. self.new.reader.left ≤ self.old.reader.left) }
+        ensures reads { OnlyReads F.Folder folder.old folder.new (IsErrOf result Stray.ReadFault) }
+    {
+        match stmt {
+            Stmt::Set { slot, value } => self.assign(value, alloc, folder, place, *slot),
+            Stmt::Store {
+                array,
+                index,
+                value,
+                line,
+                site,
+            } => self.change(
+                index,
+                value,
+                alloc,
+                folder,
+                place,
+                Change::Store,
+                *array,
+                *line,
+                *site,
+            ),
+            Stmt::Update {
+                array,
+                index,
+                value,
+                minus,
+                line,
+                site,
+            } => self.change(
+                index,
+                value,
+                alloc,
+                folder,
+                place,
+                Change::Update { minus: *minus },
+                *array,
+                *line,
+                *site,
+            ),
+            _ => unreachable!(),
+        }
     }
 
     /// Forks a region: its lanes start from the locals that the task has now.
@@ -392,42 +447,6 @@ impl<'k> ReplayLane<'k> {
         ensures reads { OnlyReads F.Folder folder.old folder.new (IsErrOf result Stray.ReadFault) }
     {
         match stmt {
-            Stmt::Set { slot, value } => self.assign(value, alloc, folder, place, *slot),
-            Stmt::Store {
-                array,
-                index,
-                value,
-                line,
-                site,
-            } => self.change(
-                index,
-                value,
-                alloc,
-                folder,
-                place,
-                Change::Store,
-                *array,
-                *line,
-                *site,
-            ),
-            Stmt::Update {
-                array,
-                index,
-                value,
-                minus,
-                line,
-                site,
-            } => self.change(
-                index,
-                value,
-                alloc,
-                folder,
-                place,
-                Change::Update { minus: *minus },
-                *array,
-                *line,
-                *site,
-            ),
             Stmt::If { test, yes, no } => {
                 let chosen = self.value(test, alloc, folder, place)?;
                 if chosen == 0 {
@@ -465,6 +484,7 @@ impl<'k> ReplayLane<'k> {
                 end,
                 body,
             } => self.critical(body, alloc, folder, place, *mutex, *line, *end),
+            _ => self.assignment(stmt, alloc, folder, place),
         }
     }
 }

@@ -1,8 +1,7 @@
 -- A whole trace whose logs keep the rules beside its index keeps the rules of a folder.
-use Rattle.std.proofs.Common.{◌≡◌, ℕ, zero, suc, List, [], ◌∷◌, length, take, Option, Some, None, sym, ap, subst, ◌∙◌, arith, get_or}
+use Rattle.std.proofs.Common.{◌≡◌, ℕ, zero, suc, List, [], ◌∷◌, length, take, Option, Some, None, sym, ap, subst, ◌∙◌, arith}
 use Rattle.std.specs.Prelude.{slice_get, Contains}
 use Rattle.std.proofs.lemmas.List.{take_all, same_from_push}
-use Rattle.std.proofs.lemmas.Option.{slice_get-get_or}
 use Rattle.sw_base.specs.declared.path.Step.{Step}
 use Rattle.log_format.specs.declared.format.Format.{Format}
 use Rattle.log_format.specs.declared.record.Record.{Record}
@@ -12,7 +11,8 @@ use Rattle.race_model.specs.IndexFault.{AreRows}
 use Rattle.race_model.specs.KeepsRules.{KnowsTeam, TaskKeepsRules, KeepsRules}
 use Rattle.race_model.specs.LogFault.{ListsSpans}
 use Rattle.race_model.specs.FirstBad.{rows_of}
-use Rattle.race_model.specs.Trace.{TaskLog, Trace, logs_of, barrier_count}
+use Rattle.race_model.specs.Trace.{Trace, logs_of, barrier_count}
+use Rattle.race_laws.proofs.FolderForkJoin.{all_by}
 use Rattle.log_walk.specs.GoodTrace.{IsGoodTrace, AreTeamBarriers}
 use Rattle.log_walk.proofs.TaskAt.{IsIndexed, logs_at, indexed_once}
 
@@ -38,19 +38,16 @@ knows_team rows trace index path (Some barriers) is team above step path_is from
 pub keeps_rules : {format : Format} (rows : List Row) (trace : Trace) → AreRows rows → IsGoodTrace format rows trace → length trace ≡ length rows → KeepsRules format trace
 keeps_rules {format} rows trace good_rows good all = record {
   rows = subst (λ (rs : List Row). AreRows rs) (sym rows_are) good_rows;
-  tasks = λ k d within. keeps k (get_or trace k d) (slice_get-get_or trace k d within);
-} where
-  rows_are : rows_of trace ≡ rows
-  rows_are = good.rows_are ∙ take_all (length trace) rows (omega arith)
-
-  keeps : (k : ℕ) (task : TaskLog) → slice_get trace k ≡ Some task → TaskKeepsRules format trace task
-  keeps k task found =
+  tasks = all_by (TaskKeepsRules format trace) trace (λ k task found.
       let is = good.each k task found in
       record {
         tabled = is.tabled;
         spans = is.spans;
-        has_spans = subst (λ (rs : List Row). ListsSpans rs task.path is.spans) (sym (good.rows_are ∙ take_all (length trace) rows (omega arith))) is.has_spans;
+        has_spans = subst (λ (rs : List Row). ListsSpans rs task.path is.spans) (sym rows_are) is.has_spans;
         due_barriers = is.due_barriers;
-        knows_team = knows_team rows trace k task.path is.due_barriers (record { rows_are = good.rows_are ∙ take_all (length trace) rows (omega arith); good = good_rows }) is.has_team;
+        knows_team = knows_team rows trace k task.path is.due_barriers (record { rows_are = rows_are; good = good_rows }) is.has_team;
         keeps = is.keeps.each;
-      }
+      });
+} where
+  rows_are : rows_of trace ≡ rows
+  rows_are = good.rows_are ∙ take_all (length trace) rows (omega arith)

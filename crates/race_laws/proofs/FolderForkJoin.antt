@@ -103,8 +103,12 @@ pub paths_same : (trace : Trace) → map (λ (row : Row). row.path) (rows_of tra
 paths_same [] = refl
 paths_same (t ∷ trace) = ap (λ (ps : List (List Step)). t.path ∷ ps) (paths_same trace)
 
+-- what holds at each place of a list
+pub all_by : {X : Type 0} (P : X → Type 0) (xs : List X) → ((k : ℕ) (x : X) → slice_get xs k ≡ Some x → P x) → All P xs
+all_by P xs each k d within = each k (get_or xs k d) (slice_get-get_or xs k d within)
+
 pub with_records : (trace : Trace) → All IsRow (rows_of trace) → All HasRecords trace
-with_records trace all k d within = let row = row_all trace k (get_or trace k d) all (slice_get-get_or trace k d within) in row.records.some
+with_records trace all = all_by HasRecords trace (λ k task found. let row = row_all trace k task all found in row.records.some)
 
 -- a listed task has records
 pub has_begun : (trace : Trace) → AreRows (rows_of trace) → (path : List Step) → Contains (map (λ (row : Row). row.path) (rows_of trace)) path → IsTask (logs_of trace) path

@@ -1,9 +1,9 @@
 -- The trace of a folder that is bad nowhere keeps the rules.
-use Rattle.std.proofs.Common.{◌≡◌, ◌⊎◌, inl, inr, ℕ, zero, suc, ◌<◌, List, [], ◌∷◌, ◌++◌, Option, Some, None, refl, sym, ap, subst, ◌∙◌, arith, get_or}
-use Rattle.std.specs.Prelude.{slice_get, Contains, map, All}
+use Rattle.std.proofs.Common.{◌≡◌, ◌⊎◌, inl, inr, ℕ, zero, suc, ◌<◌, List, [], ◌∷◌, ◌++◌, Option, Some, None, refl, sym, ap, subst, ◌∙◌, arith}
+use Rattle.std.specs.Prelude.{Contains, map, All}
 use Rattle.std.proofs.lemmas.List.{same_from_push}
 use Rattle.std.proofs.lemmas.List.Elements.{All-contains, Contains-push}
-use Rattle.std.proofs.lemmas.Option.{slice_get-get_or, same_Some, none-some}
+use Rattle.std.proofs.lemmas.Option.{same_Some, none-some}
 use Rattle.sw_base.specs.declared.path.Step.{Step}
 use Rattle.sw_base.specs.Environment.{Files}
 use Rattle.log_format.specs.declared.format.Format.{Format}
@@ -20,7 +20,7 @@ use Rattle.race_laws.proofs.Listed.{beside_listed, spans_listed}
 use Rattle.race_model.proofs.TraceLogs.{all_at}
 use Rattle.race_laws.proofs.HeldLogs.{held_log}
 use Rattle.race_laws.proofs.FolderRules.{kept, lists_spans}
-use Rattle.race_laws.proofs.FolderForkJoin.{path_at, row_all, has_begun}
+use Rattle.race_laws.proofs.FolderForkJoin.{path_at, row_all, all_by, has_begun}
 
 -- what a task's team is known to have passed, and where that is read
 record Team (format : Format) (files : Files) (dir : List ℕ) (trace : Trace) (path : List Step) : Type 0 where
@@ -62,24 +62,21 @@ module _ {format : Format} (files : Files) (dir : List ℕ) (trace : Trace) (hol
   team_of path steps listed (inl e) = no_team path (λ above step same from. not_both_empty path above step e same)
   team_of path steps listed (inr l) = lane_team path l.prefix l.last l.parts steps listed l.last.lane refl
 
-  task_keeps : (index : ℕ) (task : TaskLog) → slice_get trace index ≡ Some task → TaskKeepsRules format trace task
-  task_keeps index task found =
-      let listed = path_at trace index task found in
-      let has = spans_listed (map (λ (row : Row). row.path) (rows_of trace)) task.path holds.index.rows_are.lists listed in
-      let row = row_all trace index task holds.index.rows_are.each found in
-      let team = team_of task.path row.steps listed (has_last task.path) in
-      let log = all_at (λ (t : TaskLog). IsWholeLog format files dir t.path t.records) trace index task holds.logs found in
-      record {
-        tabled = log.tabled;
-        spans = has.spans;
-        has_spans = lists_spans (rows_of trace) task.path has.spans has.are;
-        due_barriers = team.team;
-        knows_team = team.knows;
-        keeps = kept files dir trace holds good index task found has.spans has.are team.team team.has;
-      }
-
   pub keeps_rules : KeepsRules format trace
   keeps_rules = record {
     rows = holds.index.rows_are;
-    tasks = λ k d within. task_keeps k (get_or trace k d) (slice_get-get_or trace k d within);
+    tasks = all_by (TaskKeepsRules format trace) trace (λ index task found.
+        let listed = path_at trace index task found in
+        let has = spans_listed (map (λ (row : Row). row.path) (rows_of trace)) task.path holds.index.rows_are.lists listed in
+        let row = row_all trace index task holds.index.rows_are.each found in
+        let team = team_of task.path row.steps listed (has_last task.path) in
+        let log = all_at (λ (t : TaskLog). IsWholeLog format files dir t.path t.records) trace index task holds.logs found in
+        record {
+          tabled = log.tabled;
+          spans = has.spans;
+          has_spans = lists_spans (rows_of trace) task.path has.spans has.are;
+          due_barriers = team.team;
+          knows_team = team.knows;
+          keeps = kept files dir trace holds good index task found has.spans has.are team.team team.has;
+        });
   }

@@ -4,57 +4,24 @@ use Rattle.std.proofs.lemmas.List.{same_from_push}
 use Rattle.std.proofs.lemmas.List.Sums.{sum_by-take-le}
 use Rattle.std.specs.Prelude.{cond}
 use Rattle.sw_base.specs.declared.path.Step.{Step}
-use Rattle.log_format.specs.declared.record.Kind.TheVariants.{Barrier, Region}
-use Rattle.race_model.specs.Trace.{Logs, Node, IsThere, HasKind, regions_before, barriers_before, barrier_count, is_barrier_kind}
+use Rattle.log_format.specs.declared.record.Kind.TheVariants.{Region}
+use Rattle.race_model.specs.Trace.{Logs, Node, IsThere, regions_before, barriers_before, barrier_count, is_barrier_kind}
 use Rattle.race_model.specs.Order.{IsLane, HappensBefore}
 use Rattle.race_model.specs.Race.{IsUnordered}
 use Rattle.race_model.specs.Label.{Triple, IsLabel, IsLabelBefore, IsConcurrent, lane_triple}
 use Rattle.race_model.specs.ForkJoin.{IsForkJoin}
-use Rattle.race_laws.proofs.Counts.{regions_up, regions_after, barriers_up, barriers_after, there, barrier_at, BarrierAt}
+use Rattle.race_laws.proofs.Counts.{regions_up, regions_after, there}
 use Rattle.race_laws.proofs.LabelOrder.{label_not_before_itself, label_before_trans, how_before, GoesOn, PartsAfter}
 use Rattle.race_laws.proofs.LabelPlace.{AreForked, same_node, label_forked, label_unique, label_last, same_place}
 use Rattle.race_laws.proofs.ProgramOrder.{happens_before_trans, program_order}
-use Rattle.race_laws.proofs.Chains.{IsBelow, below_region, down, out, over, one_kind}
+use Rattle.race_laws.proofs.Chains.{tree_joined, IsBelow, below_region, down}
+use Rattle.race_laws.proofs.Reaching.{Under, not_later, not_after, tree_level, task_before, team_before}
 use Rattle.race_laws.proofs.Parting.{ancestor, InOneTask, InOneTeam, parting}
 use Rattle.race_laws.proofs.EdgeOrder.{AtMost, happens_before_labels, happens_before_label_before}
-
--- x is a, or stands below a
-abbrev Under : Logs → Node → Node → Type 0
-Under logs a x = (a ≡ x) ⊎ IsBelow logs a x.path
 
 place_under : (logs : Logs) (a x : Node) (rest : List Triple) → ((a ≡ x) × (rest ≡ [])) ⊎ IsBelow logs a x.path → Under logs a x
 place_under logs a x rest (inl here) = inl here.0
 place_under logs a x rest (inr below) = inr below
-
-under_there : (logs : Logs) (a x : Node) → Under logs a x → IsThere logs x → IsThere logs a
-under_there logs a x (inl e) here = subst (λ (w : Node). IsThere logs w) (sym e) here
-under_there logs a x (inr below) here = there logs a Region (below_region logs a x.path below)
-
-arrive : (logs : Logs) (a x : Node) → IsForkJoin logs → Under logs a x → IsThere logs x → HappensBefore logs a x
-arrive logs a x tree (inl e) here = subst (λ (w : Node). HappensBefore logs w x) (sym e) (HappensBefore.here x)
-arrive logs a x tree (inr below) here = down logs a x.path below tree x refl here
-
-depart : (logs : Logs) (a x b : Node) → IsForkJoin logs → Under logs a x → IsThere logs x → a.path ≡ b.path → a.index < b.index → IsThere logs b → HappensBefore logs x b
-depart logs a x b tree (inl e) here same later b_there =
-    subst (λ (w : Node). HappensBefore logs w b) e (program_order logs a b same (omega arith) b_there)
-depart logs a x b tree (inr below) here same later b_there = out logs a x.path below tree x b refl here same later b_there
-
--- to a barrier that isn't earlier
-depart_barrier : (logs : Logs) (a x w : Node) → IsForkJoin logs → Under logs a x → IsThere logs x → a.path ≡ w.path → a.index ≤ w.index → HasKind logs w Barrier → HappensBefore logs x w
-depart_barrier logs a x w tree (inl e) here same later barrier =
-    subst (λ (v : Node). HappensBefore logs v w) e (program_order logs a w same later (there logs w Barrier barrier))
-depart_barrier logs a x w tree (inr below) here same later barrier =
-    let apart : a.index ≡ w.index → ⊥ = λ e. let one : Region ≡ Barrier = one_kind logs a w Region Barrier same e (below_region logs a x.path below) barrier in cc in
-    out logs a x.path below tree x w refl here same (strictly a.index w.index later apart) (there logs w Barrier barrier)
-  where
-    strictly : (i j : ℕ) → i ≤ j → (i ≡ j → ⊥) → i < j
-    strictly i j h apart = grind arith
-
-not_later : (i j a b : ℕ) → (j ≤ i → b ≤ a) → a < b → i < j
-not_later i j a b up less = grind arith
-
-not_after : (i j a b : ℕ) → (i < j → a < b) → b ≡ a → j ≤ i
-not_after i j a b up e = grind arith
 
 -- a label that goes on is that of a task below
 goes_on_before : (logs : Logs) (x y : Node) (l m : List Triple) → IsForkJoin logs → IsThere logs x → IsThere logs y → IsLabel logs x l → IsLabel logs y m → GoesOn l m → HappensBefore logs x y
@@ -73,40 +40,7 @@ goes_on_before logs x y l m tree x_there y_there is_l is_m g =
         let after : a.index < x.index → regions_before logs a < regions_before logs x = regions_after logs a x region (sym same) in
         happens_before_trans logs x a y
         (program_order logs x a same (not_after a.index x.index _ _ after number) (there logs a Region region))
-        (down logs a y.path below tree y refl y_there)
-
-one_task_before : (logs : Logs) (x y a b : Node) → IsForkJoin logs → IsThere logs x → IsThere logs y → Under logs a x → Under logs b y → InOneTask logs a b → HappensBefore logs x y
-one_task_before logs x y a b tree x_there y_there a_x b_y task =
-    let up : b.index ≤ a.index → regions_before logs b ≤ regions_before logs a = regions_up logs b a (sym task.same_log) in
-    happens_before_trans logs x b y
-    (depart logs a x b tree a_x x_there task.same_log (not_later a.index b.index _ _ up task.fewer_regions) (under_there logs b y b_y y_there))
-    (arrive logs b y tree b_y y_there)
-
-one_team_before : (logs : Logs) (x y a b : Node) → IsForkJoin logs → IsThere logs x → IsThere logs y → Under logs a x → Under logs b y → InOneTeam logs a b → HappensBefore logs x y
-one_team_before logs x y a b tree x_there y_there a_x b_y team =
-    let less : barriers_before logs a < barriers_before logs b = team.fewer_barriers in
-    let total : barriers_before logs b ≤ barrier_count (logs b.path) = sum_by-take-le (λ r. cond (is_barrier_kind r.kind) 1 0) (logs b.path) b.index in
-    let same : barrier_count (logs a.path) ≡ barrier_count (logs b.path) = tree.ends.same_barriers team.fork team.my_lane team.your_lane team.span a.path b.path team.mine team.yours in
-    at (barrier_at logs a.path (barriers_before logs a) (omega arith)) (barrier_at logs b.path (barriers_before logs a) (omega arith))
-  where
-    at : BarrierAt logs a.path (barriers_before logs a) → BarrierAt logs b.path (barriers_before logs a) → HappensBefore logs x y
-    at from to =
-        let w = from.barrier in
-        let met = to.barrier in
-        let w_number : barriers_before logs w ≡ barriers_before logs a = from.passed in
-        let met_number : barriers_before logs met ≡ barriers_before logs a = to.passed in
-        let less : barriers_before logs a < barriers_before logs b = team.fewer_barriers in
-        let after : w.index < a.index → barriers_before logs w < barriers_before logs a = barriers_after logs w a from.is_barrier from.same_log in
-        let up : b.index ≤ met.index → barriers_before logs b ≤ barriers_before logs met = barriers_up logs b met (sym to.same_log) in
-        let b_there = under_there logs b y b_y y_there in
-        happens_before_trans logs x w y
-        (depart_barrier logs a x w tree a_x x_there (sym from.same_log) (not_after w.index a.index _ _ after (sym w_number)) from.is_barrier)
-        (happens_before_trans logs w b y
-        (over logs team.fork w met b team.my_lane team.your_lane team.span
-        (subst (λ (p : List Step). IsLane logs team.fork team.my_lane team.span p) (sym from.same_log) team.mine) from.is_barrier
-        (subst (λ (p : List Step). IsLane logs team.fork team.your_lane team.span p) (sym to.same_log) team.yours) to.is_barrier
-        (w_number ∙ sym met_number) to.same_log (not_later met.index b.index _ _ up (omega arith)) b_there)
-        (arrive logs b y tree b_y y_there))
+        (down logs a y.path below y refl y_there)
 
 parts_before : (logs : Logs) (x y : Node) (l m : List Triple) → IsForkJoin logs → IsThere logs x → IsThere logs y → IsLabel logs x l → IsLabel logs y m → PartsAfter l m → HappensBefore logs x y
 parts_before logs x y l m tree x_there y_there is_l is_m p =
@@ -117,8 +51,12 @@ parts_before logs x y l m tree x_there y_there is_l is_m p =
     at a.above b.above a_x b_y (parting logs a.above b.above _ _ p.prefix p.mine p.yours a.is_label b.is_label refl refl p.before)
   where
     at : (a b : Node) → Under logs a x → Under logs b y → InOneTask logs a b ⊎ InOneTeam logs a b → HappensBefore logs x y
-    at a b a_x b_y (inl task) = one_task_before logs x y a b tree x_there y_there a_x b_y task
-    at a b a_x b_y (inr team) = one_team_before logs x y a b tree x_there y_there a_x b_y team
+    at a b a_x b_y (inl task) =
+        let up : b.index ≤ a.index → regions_before logs b ≤ regions_before logs a = regions_up logs b a (sym task.same_log) in
+        task_before logs (tree_joined logs tree) a b x y a_x b_y x_there y_there task.same_log (not_later a.index b.index _ _ up task.fewer_regions)
+    at a b a_x b_y (inr team) =
+        team_before logs (tree_joined logs tree) team.fork a b x y team.my_lane team.your_lane team.span a_x b_y team.mine team.yours team.fewer_barriers
+        (tree_level logs tree team.fork b team.my_lane team.your_lane team.span a.path team.mine team.yours) x_there y_there
 
 -- an earlier label is that of a record that happens before
 pub label_before_happens_before : (logs : Logs) (x y : Node) (l m : List Triple) → IsForkJoin logs → IsThere logs x → IsThere logs y → IsLabel logs x l → IsLabel logs y m

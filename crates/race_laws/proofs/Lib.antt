@@ -24,6 +24,7 @@ pub mod LogOnce
 pub mod LogReading
 pub mod Parting
 pub mod ProgramOrder
+pub mod Reaching
 pub mod RowSpelling
 pub mod StoppedTree
 pub mod Vectors

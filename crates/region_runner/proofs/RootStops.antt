@@ -126,36 +126,33 @@ least_at works _ (IsLeastBelow.below ws number region own path found within leas
 
 module _ (program : Program) (depth : ℕ) (root : Work) (sound : IsSound (layout_of program.arrays) root) (within : IsWithin depth root) (runs : RunsTask program (root_start program) (root ∷ []))
     (nests : NestsWithin depth root) where
-  log_here : (path : List Step) → logs_of (logged_tasks depth root) path ≡ works_log (works_of root path)
-  log_here = log_is (layout_of program.arrays) depth root sound within
-
   pub ends_task : (end : Ending) (path : List Step) → EndsBelow program end (root_start program) (root ∷ []) path → EndsTask program (logged_tasks depth root) path end
   unfolding start_at
   ends_task end path ends =
       let forked = ends_forked program end (root_start program) (root ∷ []) path ends in
       let at : RunsAt program (logs_of (logged_tasks depth root)) [] (root_start program) (root ∷ []) path =
-      down program (logs_of (logged_tasks depth root)) [] (root_start program) (root ∷ []) path runs forked log_here in
+      down program (logs_of (logged_tasks depth root)) [] (root_start program) (root ∷ []) path runs forked (log_is (layout_of program.arrays) depth root sound within) in
       record {
         listed = lists_logged (tree_tasks depth root) path (listed_of depth root path forked (forked_within path depth (root ∷ []) (nests, tt) forked));
         start = at.begin;
         starts = at.starts;
-        traced = subst (λ (rs : List Record). IsTracedTo program at.begin rs end) (sym (log_here path))
-            (ends_traced program end (logs_of (logged_tasks depth root)) [] (root_start program) at.begin (root ∷ []) path ends log_here at.starts);
+        traced = subst (λ (rs : List Record). IsTracedTo program at.begin rs end) (sym (log_is (layout_of program.arrays) depth root sound within path))
+            (ends_traced program end (logs_of (logged_tasks depth root)) [] (root_start program) at.begin (root ∷ []) path ends (log_is (layout_of program.arrays) depth root sound within) at.starts);
       }
 
   -- each smaller lane went further at each step of the path
   pub least_task : (path : List Step) → IsLeastBelow (root ∷ []) path → IsLeast (logged_tasks depth root) path
   least_task path least above step below parts lane smaller =
       let there = least_at (root ∷ []) path least above step below parts lane smaller in
-      subst (λ (rs : List Record). GoesFurther rs (logs_of (logged_tasks depth root) (above ++ step ∷ []))) (sym (log_here (lane_of above step.region lane step.span)))
-      (subst (λ (rs : List Record). GoesFurther (works_log (works_of root (lane_of above step.region lane step.span))) rs) (sym (log_here (above ++ step ∷ []))) there)
+      subst (λ (rs : List Record). GoesFurther rs (logs_of (logged_tasks depth root) (above ++ step ∷ []))) (sym (log_is (layout_of program.arrays) depth root sound within (lane_of above step.region lane step.span)))
+      (subst (λ (rs : List Record). GoesFurther (works_log (works_of root (lane_of above step.region lane step.span))) rs) (sym (log_is (layout_of program.arrays) depth root sound within (above ++ step ∷ []))) there)
 
   pub rests_task : (line : ℕ) (path : List Step) → RestsBelow line (root ∷ []) path → LastIsRegionAt line (logs_of (logged_tasks depth root) path)
-  rests_task line path rests = subst (λ (rs : List Record). LastIsRegionAt line rs) (sym (log_here path)) (rests_last line (root ∷ []) path rests)
+  rests_task line path rests = subst (λ (rs : List Record). LastIsRegionAt line rs) (sym (log_is (layout_of program.arrays) depth root sound within path)) (rests_last line (root ∷ []) path rests)
 
   -- the lanes of its regions put their End
   pub joined_task : (line : ℕ) (path : List Step) → RestsBelow line (root ∷ []) path → LanesEnd (logged_tasks depth root) path
-  joined_task line path rests step listed = subst (λ (rs : List Record). LastIsEnd rs) (sym (log_here lane_path)) logged_end
+  joined_task line path rests step listed = subst (λ (rs : List Record). LastIsEnd rs) (sym (log_is (layout_of program.arrays) depth root sound within lane_path)) logged_end
     where
       lane_path : List Step
       lane_path = path ++ step ∷ []
@@ -176,5 +173,5 @@ module _ (program : Program) (depth : ℕ) (root : Work) (sound : IsSound (layou
 
       logged_end : LastIsEnd (works_log (works_of root lane_path))
       logged_end =
-          let at = down program (logs_of (logged_tasks depth root)) [] (root_start program) (root ∷ []) lane_path runs forked log_here in
+          let at = down program (logs_of (logged_tasks depth root)) [] (root_start program) (root ∷ []) lane_path runs forked (log_is (layout_of program.arrays) depth root sound within) in
           ends_same (λ p. works_log (works_of root lane_path)) (λ p. flat_map work_records (works_of root lane_path)) (λ p. released_of program at.begin (works_of root lane_path) at.task) [] put_end

@@ -7,6 +7,7 @@ pub mod Impossible
 pub mod LockedLanes
 pub mod NestedStop
 pub mod PieceCases
+pub mod SerialLanes
 pub mod StoppedLane
 pub mod StoppedRuns
 pub mod TwoLanes

@@ -11,7 +11,7 @@
 --         barrier
 --       }
 --     }
-use Rattle.std.specs.Prelude.{ℕ, List, [], ◌∷◌, pos, map}
+use Rattle.std.specs.Prelude.{ℕ, ◌==◌, if◌then◌else◌, List, [], ◌∷◌, pos, map}
 use Rattle.sw_base.specs.declared.path.Step.{Step}
 use Rattle.sw_base.specs.HandedLog.{HandedLog}
 use Rattle.log_format.specs.declared.record.Record.{Record}
@@ -74,6 +74,10 @@ tasks_of more second = main_task more ∷ lane_task 0 first_log ∷ lane_task 1 
 -- those of the run
 abbrev pub tasks : Trace
 tasks = tasks_of [] (second_log 1)
+
+-- what they leave at each address: lane 0 wrote a[0], and lane 1 wrote a[1]
+abbrev pub memory : ℕ → ℕ
+memory addr = if 4104 == addr then 1 else if 4096 == addr then 1 else 0
 
 -- the logs of the run in the folder `d`, from buffers of two records
 abbrev pub dir : List ℕ

@@ -5,8 +5,9 @@
 //! them has a race, as where each lane does its work in a critical section.
 //!
 //! The other cases guard definitions that have few: executions (`IsExecution` of `execution_model`), where a run stopped (`StopsIn` of
-//! `region_runner`, `RestsBelow` of `lane_runner`), and what its logs are (`AreStopped`, `IsTornLog` of `run_command`). Each wrong run is one
-//! that differs from a run in one place, so that a weaker clause would let it pass; that it keeps the other clauses is not proved.
+//! `region_runner`, `RestsBelow` of `lane_runner`), serial runs (`GoesSerially` of `serial_steps`), and what its logs are (`AreStopped`,
+//! `IsTornLog` of `run_command`). Each wrong run is one that differs from a run in one place, so that a weaker clause would let it pass; that it
+//! keeps the other clauses is not proved.
 #![tactic(auto)]
 
 mod histories;
@@ -24,4 +25,4 @@ pub use pieces::{
     draws_close_with_their_count, each_chunk_is_drawn_once, runs_keep_all_lanes,
     tasks_stop_behind_ended_lanes, torn_logs_lack_two_blocks,
 };
-pub use stopped::{a_lane_stops, tasks_wait_for_others};
+pub use stopped::{a_lane_stops, a_serial_run_stops, tasks_wait_for_others};

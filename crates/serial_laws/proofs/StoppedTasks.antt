@@ -44,10 +44,10 @@ module _ (layout : ElementLayout) (by_log : layout.bound ≡ OfLog) (program : P
   -- ---- where a task stands still
 
   -- the records begin the task's trace, and these are the first regions that it forks
-  record Begins (start : Start) (records : List Record) (forks : List model.Fork) : Type 0 where
-    trace : BeginsTrace program start records
-    later : List model.Fork
-    forks_are : (own_trace program start records).forks ≡ forks ++ later
+  pub record Begins (start : Start) (records : List Record) (forks : List model.Fork) : Type 0 where
+    pub trace : BeginsTrace program start records
+    pub later : List model.Fork
+    pub forks_are : (own_trace program start records).forks ≡ forks ++ later
 
   leads_here : (first x : Stand) (records : List Record) (forks : List model.Fork) → Comes layout first x records forks
       → Leads (stand_left first) first.slots (room_of layout.bound first.progress) (stand_left x) x.slots (room_of layout.bound x.progress) records forks
@@ -66,20 +66,24 @@ module _ (layout : ElementLayout) (by_log : layout.bound ≡ OfLog) (program : P
     abbrev here : model.State
     here = state_with x.slots records forks (room_of layout.bound x.progress) [] []
 
-    -- all that the task does is what is left of it here
-    task_here : task program start (reads_of records) (chunks_of records) ≡ stand_left x here
+    -- all that the task does under what its records read, and then these values, is what is left of it here under them
+    pub task_from : (reads : List ℤ) (chunks : List ℕ) → task program start (reads_of records ++ reads) (chunks_of records ++ chunks) ≡ stand_left x (state_with x.slots records forks (room_of layout.bound x.progress) reads chunks)
     unfolding task
-    task_here =
+    task_from reads chunks =
         let none = begun.none in
         let all : record_limit ≡ room = omega (arith, none, room_log layout.bound first.progress by_log) in
-        ap (λ (n : ℕ). parts program start (state_with start.slots [] [] n (reads_of records) (chunks_of records))) all
-        ∙ ap (λ (l : List ℤ). parts program start (state_with l [] [] room (reads_of records) (chunks_of records))) (sym begun.slots)
-        ∙ ap (λ (l : List ℤ). parts program start (state_with first.slots [] [] room l (chunks_of records))) (sym (append-nil (reads_of records)))
-        ∙ ap (λ (l : List ℕ). parts program start (state_with first.slots [] [] room (reads_of records ++ []) l)) (sym (append-nil (chunks_of records)))
-        ∙ sym (begun.whole (state_with first.slots [] [] room (reads_of records ++ []) (chunks_of records ++ [])))
-        ∙ leads_here first x records forks come [] [] [] []
+        ap (λ (n : ℕ). parts program start (state_with start.slots [] [] n (reads_of records ++ reads) (chunks_of records ++ chunks))) all
+        ∙ ap (λ (l : List ℤ). parts program start (state_with l [] [] room (reads_of records ++ reads) (chunks_of records ++ chunks))) (sym begun.slots)
+        ∙ sym (begun.whole (state_with first.slots [] [] room (reads_of records ++ reads) (chunks_of records ++ chunks)))
+        ∙ leads_here first x records forks come [] [] reads chunks
 
-    begins_here : Begins start records forks
+    task_here : task program start (reads_of records) (chunks_of records) ≡ stand_left x here
+    task_here =
+        ap (λ (l : List ℤ). task program start l (chunks_of records)) (sym (append-nil (reads_of records)))
+        ∙ ap (λ (l : List ℕ). task program start (reads_of records ++ []) l) (sym (append-nil (chunks_of records)))
+        ∙ task_from [] []
+
+    pub begins_here : Begins start records forks
     begins_here =
         let grown = left_grows x here in
         record {

@@ -1,5 +1,5 @@
 -- What the logs of a serial run are to its kernel.
-use Rattle.std.specs.Prelude.{◌≡◌, ◌≤◌, ℕ, List, length, map, sum_by}
+use Rattle.std.specs.Prelude.{◌≡◌, ◌<◌, ◌≤◌, ℕ, List, length, map, slice_index, sum_by}
 use Rattle.log_format.specs.declared.format.TheConstants.{FORMAT}
 use Rattle.log_format.specs.Format.{log_header}
 use Rattle.log_format.specs.Spelling.{log_bytes}
@@ -13,6 +13,7 @@ use Rattle.history_model.specs.Sound.{WordLayout, IsSound, HasAddresses, AreFitt
 use Rattle.execution_model.specs.Runs.{logged_tasks}
 use Rattle.execution_laws.specs.Nesting.{NestsWithin}
 use Rattle.serial_model.specs.Serial.{IsSerial, Leaves, RunsSerially}
+use Rattle.serial_steps.specs.Lanes.{Still, GoesSerially}
 use Rattle.serial_team.specs.Members.{WholeLog}
 
 -- the whole log of a task: the header, and its records as they are spelled
@@ -46,3 +47,11 @@ pub record IsStoppedWork (program : Program) (layout : WordLayout) (root : Work)
   pub addresses : HasAddresses layout words
   pub fitted : AreFitted layout words words
   pub all : length words ≡ elements program.arrays
+
+-- The logs spell the tasks that the serial run makes, which comes to its end, lane after lane, and the words are the memory that it leaves.
+pub record EndsSerially (program : Program) (layout : WordLayout) (room : ℕ) (logs : List WholeLog) (words : List ℕ) : Type 0 where
+  pub tasks : Trace
+  pub memory : ℕ → ℕ
+  pub goes : GoesSerially program room tasks memory Still.at_end
+  pub logs_are : logs ≡ map spelled tasks
+  pub words_are : (w : ℕ) → w < length words → slice_index words w ≡ memory (layout.address w)

@@ -17,13 +17,19 @@ ghost use Rattle.serial_team.specs.Members.{WholeLog};
 ghost use Rattle.serial_team.specs.Running.{DidRoot};
 ghost use Rattle.serial_team.specs.Stopping.{RootStopped, StopAt};
 ghost use Rattle.serial_model.specs.Order.{HasSerialHistory};
-ghost use Rattle.serial_laws.specs.SerialRuns.{IsSerialRun, IsStoppedWork, LogsSerialRun};
+ghost use Rattle.serial_laws.specs.SerialRuns.{EndsSerially, IsSerialRun, IsStoppedWork, LogsSerialRun};
 
 /// A root that ran to its end, lane after lane, ran the kernel serially: its logs spell the tasks of that run, and its words are those
 /// that the run leaves. It has no more records than there was room for.
 pub fn serial_teams_run_the_kernel()
     ensures { (layout : ElementLayout) (program : Program) (left : ℕ) (logs : List WholeLog) (words : List ℕ) → IsLawful program →
         TellsWords program.arrays layout → layout.bound ≡ OfLog → DidRoot layout program left logs words → LogsSerialRun program layout.words left logs words }
+{}
+
+/// Of a fixed kernel it is the serial run, lane after lane.
+pub fn serial_teams_go_serially()
+    ensures { (layout : ElementLayout) (program : Program) (left : ℕ) (logs : List WholeLog) (words : List ℕ) → IsLawful program → IsFixed program.main.body →
+        TellsWords program.arrays layout → layout.bound ≡ OfLog → DidRoot layout program left logs words → EndsSerially program layout.words left logs words }
 {}
 
 /// Where the root or a task below it stopped, all that was done is the work of a fork-join run, in serial order.

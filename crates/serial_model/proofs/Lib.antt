@@ -1,6 +1,5 @@
 pub mod Homes
 pub mod Legal
-pub mod Reaching
 pub mod SerialHistory
 pub mod SerialRuns
 pub mod Told

@@ -10,25 +10,27 @@ use Rattle.sw_base.proofs.Lists.{get_right}
 use Rattle.log_format.specs.declared.record.Record.{Record}
 use Rattle.log_format.specs.declared.record.Kind.TheVariants.{Region}
 use Rattle.race_model.specs.Listing.{lane_of}
-use Rattle.race_model.specs.Trace.{Logs, Node, IsThere, region_count, is_region_kind, barrier_count, barriers_before, regions_before}
+use Rattle.race_model.specs.Trace.{Logs, Node, IsThere, region_count, barrier_count, barriers_before, regions_before}
 use Rattle.race_model.specs.Order.{IsLane, HappensBefore}
 use Rattle.race_model.specs.History.{Entry, entry_of}
 use Rattle.race_model.proofs.Counted.{barriers_both, regions_both}
+use Rattle.race_laws.proofs.Chains.{AreJoined, last_of}
 use Rattle.race_laws.proofs.ProgramOrder.{node}
+use Rattle.race_laws.proofs.Reaching.{above_there, task_before, team_before}
 use Rattle.counted_order.specs.Counting.{IsAbove}
+use Rattle.counted_order.proofs.Paths.{GoesOn, goes_on}
+use Rattle.counted_order.proofs.Reaching.{under}
 use Rattle.history_model.specs.Work.{Work, Rest, Put, Fork, Phases, NoPhase, Phase, TeamWork, NoWork, Beside, RegionWork, fork_record, logged, work_records, work_regions, work_at, lane_works, works_of, task_logs}
 use Rattle.history_model.specs.Did.{lane_count_of}
 use Rattle.history_model.specs.Sound.{WordLayout, IsSound, ArePhasesSound, IsTeamSound, PassesBarrier}
 use Rattle.history_model.specs.Joined.{IsJoined}
-use Rattle.history_model.proofs.Parts.{count_cons}
-use Rattle.history_laws.proofs.EndedLanes.{lanes_end}
+use Rattle.history_laws.proofs.EndedLanes.{lanes_end, count_regions}
 use Rattle.history_laws.proofs.LabelledWork.{entry, records_at, regions_at}
 use Rattle.history_laws.proofs.MetBarriers.{barriers_met, none_before_last, team_passes, works_lane}
 use Rattle.history_laws.proofs.TaskEntries.{entries_in, phases_entries, team_entries, one_or_none}
 use Rattle.history_laws.proofs.TaskTree.{lane_is, other_kind}
 use Rattle.history_laws.proofs.TeamBarriers.{take_past}
 use Rattle.serial_model.specs.Order.{HasSmallerLane}
-use Rattle.serial_model.proofs.Reaching.{task_before, team_before}
 
 -- ---- lists in which each element is so to all that follow
 
@@ -66,27 +68,6 @@ turn_at R (z ∷ before) mid after x y turn = turn_at R before mid after x y tur
 above_up : (logs : Logs) (fork a x : Node) (n s : ℕ) → IsLane logs fork n s a.path → IsAbove logs a x → IsAbove logs fork x
 above_up logs fork _ _ n s lane (IsAbove.itself x) = IsAbove.lane fork fork x n s lane (IsAbove.itself fork)
 above_up logs fork _ _ n s lane (IsAbove.lane a deeper x m t wide up) = IsAbove.lane fork deeper x m t wide (above_up logs fork a deeper n s lane up)
-
-record GoesOn (a x : List Step) : Type 0 where
-  rest : List Step
-  is : x ≡ a ++ rest
-
-above_path : (logs : Logs) (a x : Node) → IsAbove logs a x → GoesOn a.path x.path
-above_path logs _ _ (IsAbove.itself x) = record { rest = []; is = sym (append-nil x.path) }
-above_path logs _ _ (IsAbove.lane a fork x n s lane up) =
-    let g = above_path logs a fork up in
-    record { rest = g.rest ++ record { region = region_count (take fork.index (logs fork.path)); lane = n; span = s } ∷ []; is = lane.child ∙ (ap (λ (p : List Step). p ++ record { region = region_count (take fork.index (logs fork.path)); lane = n; span = s } ∷ []) g.is ∙ append_assoc a.path g.rest _) }
-
--- as many regions as records of them
-regions_counted : (layout : WordLayout) (work : Work) → IsSound layout work → region_count (work_records work) ≡ length (work_regions work)
-regions_counted layout Rest sound = refl
-regions_counted layout (Put r more) sound =
-    let none : region_count (r ∷ []) ≡ 0 = ap (λ (b : Bool). 0 + cond b 1 0) (other_kind r.kind sound.0.no_region) in
-    let rest = regions_counted layout more sound.2 in
-    omega (arith, count_cons (λ (q : Record). is_region_kind q.kind) r (work_records more))
-regions_counted layout (Fork line span phases more) sound =
-    let rest = regions_counted layout more sound.1 in
-    omega (arith, count_cons (λ (q : Record). is_region_kind q.kind) (fork_record line span) (work_records more))
 
 first_of : {X : Type 0} (before after : List X) (x : X) (n : ℕ) → length before ≡ n → slice_get (before ++ x ∷ after) n ≡ Some x
 first_of before after x n is = ap (λ (k : ℕ). slice_get (before ++ x ∷ after) k) (let e : n ≡ length before + 0 = omega (arith, is) in e) ∙ get_right before (x ∷ after) 0
@@ -242,7 +223,7 @@ module _ (layout : WordLayout) (root : Work) (sound : IsSound layout root) (join
   team_counted : (lane : ℕ) (team : TeamWork) → IsTeamSound layout team → region_count (flat_map work_records (work_at lane team)) ≡ regions_at lane team
   team_counted lane NoWork is = refl
   team_counted zero (Beside work others) is =
-      ap (λ (rs : List Record). region_count rs) (append-nil (work_records work)) ∙ regions_counted layout work is.0 ∙ ap (λ (rs : List RegionWork). length rs) (sym (append-nil (work_regions work)))
+      ap (λ (rs : List Record). region_count rs) (append-nil (work_records work)) ∙ count_regions layout work is.0 ∙ ap (λ (rs : List RegionWork). length rs) (sym (append-nil (work_regions work)))
   team_counted (suc lane) (Beside work others) is = team_counted lane others is.1
 
   next_phase : (path : List Step) (i g passed lane : ℕ) (team : TeamWork) (later : Phases) → lane < lane_count_of team → IsTeamSound layout team → PassesBarrier team
@@ -383,31 +364,36 @@ module _ (layout : WordLayout) (root : Work) (sound : IsSound layout root) (join
 
   -- ---- and comes before those told later
 
+  all_joined : AreJoined logs
+  all_joined fork lane span beside is more = let e = lanes_end layout root fork lane span beside sound joined is more in last_of logs beside e.prefix e.last e.parts e.ends
+
   across_work : (path : List Step) (i : ℕ) (one more : Work) (x y : Entry) → length (work_records one) ≡ 1 → IsOfWork path i one x → IsOfWork path (i + 1) more y → Comes x y
   across_work path i one more x y size of other =
-      inl (task_before logs (λ fork lane span beside is ends. lanes_end layout root fork lane span beside sound joined is ends) (node path (i + of.place)) (node path (i + 1 + other.place)) x.node y.node of.part other.part of.here other.here refl
-      (omega (arith, of.within)))
+      let a = node path (i + of.place) in
+      let b = node path (i + 1 + other.place) in
+      inl (task_before logs all_joined a b x.node y.node (under logs a x.node of.part) (under logs b y.node other.part) of.here other.here refl (omega (arith, of.within)))
 
   across_phases : (fork : Node) (span passed : ℕ) (x y : Entry) → IsOfTeam fork span 0 passed x → IsOfPhases fork span (passed + 1) y → Comes x y
   across_phases fork span passed x y of other =
-      inl (team_before logs (λ fork lane span beside is ends. lanes_end layout root fork lane span beside sound joined is ends)
-      (λ fork lane other span path beside i is also within. barriers_met layout root fork lane other span path beside i sound is also within)
-      fork of.of.above other.of.above x.node y.node of.lane other.lane span of.of.part other.of.part of.of.in_lane other.of.in_lane (omega (arith, of.number, other.number)) of.of.here other.of.here)
+      let a = of.of.above in
+      let b = other.of.above in
+      inl (team_before logs all_joined fork a b x.node y.node of.lane other.lane span (under logs a x.node of.of.part) (under logs b y.node other.of.part) of.of.in_lane other.of.in_lane (omega (arith, of.number, other.number))
+      (barriers_met layout root fork other.lane of.lane span b.path a.path b.index sound other.of.in_lane of.of.in_lane (above_there logs b y.node (under logs b y.node other.of.part) other.of.here)) of.of.here other.of.here)
 
   across_lanes : (fork : Node) (span first passed : ℕ) (x y : Entry) → IsOfLane fork span first x → IsOfTeam fork span (suc first) passed y → Comes x y
   across_lanes fork span first passed x y of other = inr (record {
     shared = fork.path;
     mine = record { region = regions_before logs fork; lane = first; span = span };
     yours = record { region = regions_before logs fork; lane = other.lane; span = span };
-    my_rest = (above_path logs of.above x.node of.part).rest;
-    your_rest = (above_path logs other.of.above y.node other.of.part).rest;
-    path_is = along of.above x.node first of.in_lane (above_path logs of.above x.node of.part);
-    other_is = along other.of.above y.node other.lane other.of.in_lane (above_path logs other.of.above y.node other.of.part);
+    my_rest = (goes_on logs of.above x.node of.part).rest;
+    your_rest = (goes_on logs other.of.above y.node other.of.part).rest;
+    path_is = along of.above x.node first of.in_lane (goes_on logs of.above x.node of.part);
+    other_is = along other.of.above y.node other.lane other.of.in_lane (goes_on logs other.of.above y.node other.of.part);
     smaller = omega (arith, other.from);
   })
     where
       along : (a z : Node) (lane : ℕ) → IsLane logs fork lane span a.path → (o : GoesOn a.path z.path) → z.path ≡ fork.path ++ record { region = regions_before logs fork; lane = lane; span = span } ∷ o.rest
-      along a z lane is o = o.is ∙ (ap (λ (p : List Step). p ++ o.rest) is.child ∙ append_assoc fork.path (record { region = regions_before logs fork; lane = lane; span = span } ∷ []) o.rest)
+      along a z lane is o = o.parts ∙ (ap (λ (p : List Step). p ++ o.rest) is.child ∙ append_assoc fork.path (record { region = regions_before logs fork; lane = lane; span = span } ∷ []) o.rest)
 
   mutual
     turn_in : (path : List Step) (i g : ℕ) (work : Work) → IsSound layout work → GoesWith path i g work → InTurn Comes (entries_in path i g work)

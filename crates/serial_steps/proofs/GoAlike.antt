@@ -142,4 +142,4 @@ unfolding task
 forks_fixed program start reads chunks fixed =
     let first = state_at start reads chunks in
     let adds = (run-pairs (site_of program start) start.team.body fixed).adds first in
-    subst (All FixedFork) (sym (end_forks (run (site_of program start) start.team.body first) (event kind.End start.team.end 0 0) ∙ adds.forks_are)) adds.fixed
+    subst (All FixedFork) (sym (end_forks (run (site_of program start) start.team.body first) (event kind.End start.team.end 0 0) ∙ adds.forks_are)) adds.is.1

@@ -1,6 +1,7 @@
 -- The serial run of a fixed kernel is one.
 use Rattle.std.proofs.Common.{◌≡◌, refl, ap, ap₂, sym, ◌∙◌, subst, inl, inr, ℕ, ◌+◌, ◌<◌, ◌≤◌, List, [], ◌∷◌, ◌++◌, length, All, arith}
 use Rattle.std.specs.List.{range_with_len}
+use Rattle.std.proofs.lemmas.List.{append-nil, append_cancel_left}
 use Rattle.std.proofs.lemmas.Option.{same_Some}
 use Rattle.std.proofs.lemmas.List.Elements.{All-cons, All-head, All-map, All-tail}
 use Rattle.log_format.specs.Limit.{task_limit}
@@ -17,11 +18,10 @@ use Rattle.kernel_model.specs.declared.stop.StopWhy.{StopWhy}
 use Rattle.kernel_model.specs.declared.stop.StopWhy.TheVariants.{Tasks}
 use Rattle.kernel_model.specs.Folder.{own_trace, IsTracedTo}
 use Rattle.kernel_model.specs.State.{Fork, reads_of, chunks_of}
-use Rattle.kernel_model.specs.Trace.{Stopped}
-use Rattle.execution_model.specs.Execution.{BeginsTrace}
+use Rattle.kernel_model.specs.Trace.{Stopped, Wanting}
 use Rattle.certainty_model.specs.Certain.{IsFixed}
 use Rattle.certainty_model.proofs.Pairs.{FixedFork}
-use Rattle.serial_steps.specs.Lanes.{Shared, SerialTask, tasks_of, with_record, after_record, MakesNext, ForksNext, lanes_of, past_lanes, Still, IsTooLong, told, TaskGoes, PhaseGoes, RegionGoes, GoesSerially}
+use Rattle.serial_steps.specs.Lanes.{Shared, SerialTask, tasks_of, with_record, after_record, MakesNext, ForksNext, HasMore, lanes_of, past_lanes, Still, IsTooLong, told, TaskGoes, PhaseGoes, RegionGoes, GoesSerially}
 use Rattle.serial_steps.proofs.GoAlike.{forks_fixed}
 use Rattle.serial_steps.proofs.NextRecords.{one_record, none_past_stop}
 
@@ -60,7 +60,7 @@ module _ (program : Program) where
   data First (t : SerialTask) (s : Shared) (v : SerialTask) (p : Shared) (other : Still) : Type 0 where
     puts : (r : Record) → MakesNext program t s r → GoesPast r.kind t s r v p other → First t s v p other
     halts : (line : ℕ) (why : StopWhy) → IsTracedTo program t.start t.records (Stopped why line) → StoodSo t v s p (Still.stopped t.path line why) other → First t s v p other
-    is_long : (r : Record) → BeginsTrace program t.start (t.records ++ r ∷ []) → s.left ≡ 0 → StoodSo t v s p (Still.too_long t.path (length t.records + 1)) other → First t s v p other
+    is_long : HasMore program t → s.left ≡ 0 → StoodSo t v s p (Still.too_long t.path (length t.records + 1)) other → First t s v p other
 
   access_past : (k : Kind) (t : SerialTask) (s : Shared) (r : Record) (v : SerialTask) (p : Shared) (other : Still) → AccessesMemory k → TaskGoes program (with_record t r) (after_record s r) v p other
       → GoesPast k t s r v p other
@@ -87,7 +87,7 @@ module _ (program : Program) where
   first_step _ _ _ _ _ (TaskGoes.waits t s r m is) = First.puts r m (subst (λ (k : Kind). GoesPast k t s r (with_record t r) (after_record s r) Still.at_barrier) (sym is) (stood (with_record t r) (after_record s r) Still.at_barrier))
   first_step _ _ _ _ _ (TaskGoes.ends t s r m is) = First.puts r m (subst (λ (k : Kind). GoesPast k t s r (with_record t r) (after_record s r) Still.at_end) (sym is) (stood (with_record t r) (after_record s r) Still.at_end))
   first_step _ _ _ _ _ (TaskGoes.stops t s line why traced) = First.halts line why traced (stood t s _)
-  first_step _ _ _ _ _ (TaskGoes.would_make t s r begun none) = First.is_long r begun none (stood t s _)
+  first_step _ _ _ _ _ (TaskGoes.would_make t s on none) = First.is_long on none (stood t s _)
   first_step _ _ _ _ _ (TaskGoes.passes t v s q p r fork lanes other f goes few more) = at_region t v s p other r fork lanes q Still.at_end f goes (PastRegion.goes_on q few more)
   first_step _ _ _ _ _ (TaskGoes.is_crowded t s q r fork lanes f goes most) =
       at_region t (past_lanes t r lanes) s q _ r fork lanes q Still.at_end f goes (PastRegion.crowds q most (stood (past_lanes t r lanes) q (Still.stopped t.path r.line Tasks)))
@@ -99,6 +99,13 @@ module _ (program : Program) where
   abbrev IsFixedTask : SerialTask → Type 0
   IsFixedTask t = IsFixed t.start.team.body
 
+  -- the trace of a task that stopped has nothing more
+  none_on : (t : SerialTask) (line : ℕ) (why : StopWhy) → IsTracedTo program t.start t.records (Stopped why line) → HasMore program t → ⊥
+  none_on t line why traced on =
+      let none = append_cancel_left t.records on.more [] (sym on.begins ∙ traced.records_are ∙ sym (append-nil t.records)) in
+      let clash : Stopped why line ≡ Wanting = sym traced.ended ∙ on.wants none in
+      cc
+
   -- a task of which the first run tells
   module _ (bounded : IsBounded program) where
     past_record : (t v : SerialTask) (s p : Shared) (other : Still) (r : Record) → IsFixedTask t → MakesNext program t s r → TaskGoes program t s v p other → GoesPast r.kind t s r v p other
@@ -108,7 +115,7 @@ module _ (program : Program) where
         by (First.puts q n past) =
             subst (λ (x : Record). GoesPast x.kind t s x v p other) (one_record program t.start t.records bounded fixed s.memory r q m.begun n.begun m.finds n.finds) past
         by (First.halts line why traced so) = absurd (none_past_stop program t.start t.records bounded fixed why line r traced m.begun)
-        by (First.is_long q begun none so) = absurd (let some = m.some in omega (arith, none, some))
+        by (First.is_long on none so) = absurd (let some = m.some in omega (arith, none, some))
 
     past_stop : (t v : SerialTask) (s p : Shared) (other : Still) (line : ℕ) (why : StopWhy) → IsFixedTask t → IsTracedTo program t.start t.records (Stopped why line) → TaskGoes program t s v p other
         → StoodSo t v s p (Still.stopped t.path line why) other
@@ -120,16 +127,16 @@ module _ (program : Program) where
             let same : Stopped w k ≡ Stopped why line = sym also.ended ∙ traced.ended in
             let stops : Still.stopped t.path k w ≡ Still.stopped t.path line why = cc in
             record { task = so.task; shared = so.shared; still = so.still ∙ stops }
-        by (First.is_long r begun none so) = absurd (none_past_stop program t.start t.records bounded fixed why line r traced begun)
+        by (First.is_long on none so) = absurd (none_on t line why traced on)
 
-    past_room : (t v : SerialTask) (s p : Shared) (other : Still) (r : Record) → IsFixedTask t → BeginsTrace program t.start (t.records ++ r ∷ []) → s.left ≡ 0 → TaskGoes program t s v p other
+    past_room : (t v : SerialTask) (s p : Shared) (other : Still) → HasMore program t → s.left ≡ 0 → TaskGoes program t s v p other
         → StoodSo t v s p (Still.too_long t.path (length t.records + 1)) other
-    past_room t v s p other r fixed begun none d = by (first_step t v s p other d)
+    past_room t v s p other on none d = by (first_step t v s p other d)
       where
         by : First t s v p other → StoodSo t v s p (Still.too_long t.path (length t.records + 1)) other
         by (First.puts q n past) = absurd (let some = n.some in omega (arith, none, some))
-        by (First.halts line why traced so) = absurd (none_past_stop program t.start t.records bounded fixed why line r traced begun)
-        by (First.is_long q also nothing so) = so
+        by (First.halts line why traced so) = absurd (none_on t line why traced on)
+        by (First.is_long also nothing so) = so
 
     -- the lanes of the region that it forks
     lanes_fixed : (t : SerialTask) (s : Shared) (r : Record) (fork : Fork) → IsFixedTask t → ForksNext program t s r fork → All IsFixedTask (lanes_of t fork)
@@ -199,7 +206,7 @@ module _ (program : Program) where
       task_once _ _ v _ _ p _ other fixed (TaskGoes.waits t s r m is) d = (subst (λ (k : Kind). GoesPast k t s r v p other) is (past_record t v s p other r fixed m d), fixed)
       task_once _ _ v _ _ p _ other fixed (TaskGoes.ends t s r m is) d = (subst (λ (k : Kind). GoesPast k t s r v p other) is (past_record t v s p other r fixed m d), fixed)
       task_once _ _ v _ _ p _ other fixed (TaskGoes.stops t s line why traced) d = (past_stop t v s p other line why fixed traced d, fixed)
-      task_once _ _ v _ _ p _ other fixed (TaskGoes.would_make t s r begun none) d = (past_room t v s p other r fixed begun none d, fixed)
+      task_once _ _ v _ _ p _ other fixed (TaskGoes.would_make t s on none) d = (past_room t v s p other on none d, fixed)
       task_once _ _ v _ _ p _ other fixed (TaskGoes.passes t u s w q r fork lanes end f goes few more) d =
           task_once (past_lanes t r lanes) u v w q p end other fixed more
           (past_few t v r lanes w p other Still.at_end few refl

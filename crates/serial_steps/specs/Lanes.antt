@@ -16,7 +16,7 @@ use Rattle.kernel_model.specs.declared.stop.StopWhy.{StopWhy}
 use Rattle.kernel_model.specs.declared.stop.StopWhy.TheVariants.{Tasks}
 use Rattle.kernel_model.specs.Folder.{own_trace, root_start, IsTracedTo}
 use Rattle.kernel_model.specs.State.{Fork}
-use Rattle.kernel_model.specs.Trace.{Start, Stopped}
+use Rattle.kernel_model.specs.Trace.{Start, Stopped, Wanting}
 use Rattle.execution_model.specs.Execution.{BeginsTrace}
 
 -- what all tasks share: what stands at each address, and how many records the run may still make
@@ -59,6 +59,12 @@ pub record ForksNext (program : Program) (t : SerialTask) (s : Shared) (r : Reco
   pub is_region : r.kind ≡ Region
   pub forks : slice_get (own_trace program t.start (t.records ++ r ∷ [])).forks (region_count t.records) ≡ Some fork
 
+-- under what its records read, the task's trace has a record more, or wants a value to be read
+pub record HasMore (program : Program) (t : SerialTask) : Type 0 where
+  pub more : List Record
+  pub begins : (own_trace program t.start t.records).records ≡ t.records ++ more
+  pub wants : more ≡ [] → (own_trace program t.start t.records).end ≡ Wanting
+
 -- the lanes of the task's next region, as they begin
 abbrev pub lanes_of : SerialTask → Fork → List SerialTask
 lanes_of t fork =
@@ -95,7 +101,7 @@ mutual
     waits : (t : SerialTask) (s : Shared) (r : Record) → MakesNext program t s r → r.kind ≡ Barrier → TaskGoes program t s (with_record t r) (after_record s r) Still.at_barrier
     ends : (t : SerialTask) (s : Shared) (r : Record) → MakesNext program t s r → r.kind ≡ End → TaskGoes program t s (with_record t r) (after_record s r) Still.at_end
     stops : (t : SerialTask) (s : Shared) (line : ℕ) (why : StopWhy) → IsTracedTo program t.start t.records (Stopped why line) → TaskGoes program t s t s (Still.stopped t.path line why)
-    would_make : (t : SerialTask) (s : Shared) (r : Record) → BeginsTrace program t.start (t.records ++ r ∷ []) → s.left ≡ 0 → TaskGoes program t s t s (Still.too_long t.path (length t.records + 1))
+    would_make : (t : SerialTask) (s : Shared) → HasMore program t → s.left ≡ 0 → TaskGoes program t s t s (Still.too_long t.path (length t.records + 1))
     passes : (t u : SerialTask) (s p q : Shared) (r : Record) (fork : Fork) (lanes : List SerialTask) (end : Still) → ForksNext program t s r fork
         → RegionGoes program (lanes_of t fork) (after_record s r) lanes p Still.at_end → length (past_lanes t r lanes).below ≤ task_limit → TaskGoes program (past_lanes t r lanes) p u q end → TaskGoes program t s u q end
     is_crowded : (t : SerialTask) (s p : Shared) (r : Record) (fork : Fork) (lanes : List SerialTask) → ForksNext program t s r fork

@@ -1,5 +1,6 @@
 mod asking;
 mod graph;
+mod reading;
 mod sweeping;
 mod team_threads;
 mod threads;

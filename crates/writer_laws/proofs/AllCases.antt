@@ -22,7 +22,7 @@ use Rattle.writer_laws.specs.Values.{IsSameButValue, AreSameButValues, DifferInV
 use Rattle.writer_laws.specs.Writing.{IsWritten}
 use Rattle.writer_laws.proofs.Alike.{alike_logs}
 use Rattle.writer_laws.proofs.Computed.{kept_logs, left_out}
-use Rattle.writer_laws.proofs.Deciding.{is_fork_join, fork_join_by, forked_by_run}
+use Rattle.writer_laws.proofs.Deciding.{is_fork_join, fork_join_by}
 use Rattle.writer_laws.proofs.Origins.{old_from, old_is}
 
 pub whole_is_run : IsForkJoin (logs_of whole_run)
@@ -206,7 +206,7 @@ region_is_cut = record {
   spans = refl;
   forks_again = refl;
   spans_again = refl;
-  only = forked_by_run cut_run refl;
+  only = (fork_join_by cut_run refl).tasks.forked;
   lanes = lanes;
   rest = λ path other f n s from lane is.
       at_task StaysElsewhere cut_run other elsewhere ((fork_join_by cut_run refl).ends.lanes f n s other lane) (not_root (logs_of cut_run) f n s other lane) is
@@ -232,8 +232,8 @@ run_is_split = record {
   second_root = refl;
   ends = refl;
   goes_on = omega arith;
-  first_forked = forked_by_run first_folder refl;
-  second_forked = forked_by_run second_folder refl;
+  first_forked = (fork_join_by first_folder refl).tasks.forked;
+  second_forked = (fork_join_by second_folder refl).tasks.forked;
   first_tasks = kept_there 0 first_folder refl (λ deep. absurd (deep refl), (λ deep. refl, (λ deep. refl, (λ deep. refl, (λ deep. refl, tt)))));
   second_tasks = kept_there 1 second_folder refl (λ deep. absurd (deep refl), (λ deep. refl, (λ deep. refl, (λ deep. refl, (λ deep. refl, tt)))));
 }

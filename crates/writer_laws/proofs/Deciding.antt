@@ -241,10 +241,6 @@ module _ (trace : Trace) (is : is_fork_join trace ≡ true) where
     };
   }
 
-  -- there are no logs but of lanes that were forked
-  pub forked_by_run : (path : List Step) (step : Step) → IsTask (logs_of trace) (path ++ step ∷ []) → WasForked (logs_of trace) path step
-  forked_by_run = fork_join_by.tasks.forked
-
 -- the barriers that a record, or the Region through which it hangs, comes after in the lane below a level
 abbrev pub fork_barriers : Option ForkPlace → ℕ
 fork_barriers None = 0

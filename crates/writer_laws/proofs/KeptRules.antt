@@ -25,7 +25,7 @@ use Rattle.race_model.specs.FirstBad.{rows_of}
 use Rattle.race_model.specs.KeepsRules.{KnowsTeam, TaskKeepsRules, KeepsRules}
 use Rattle.race_model.specs.ForkJoin.{EndsOnce, IsTask, IsForkJoin}
 use Rattle.race_model.proofs.TraceLogs.{all_at, find_task}
-use Rattle.race_laws.proofs.FolderForkJoin.{path_at, paths_same, has_begun, fork_join}
+use Rattle.race_laws.proofs.FolderForkJoin.{path_at, paths_same, all_by, has_begun, fork_join}
 use Rattle.race_laws.proofs.FolderRules.{path_listed, lists_spans, region_of}
 use Rattle.race_laws.proofs.Counts.{count_next}
 use Rattle.race_laws.proofs.LabelPlace.{HasLast, has_last, not_both_empty}
@@ -262,7 +262,7 @@ module _ {format : Format} (trace : Trace) (tree : IsForkJoin (logs_of trace)) (
       let s = spans_listed paths path rows.lists listed in
       let d = has_due path (has_begun trace rows path listed) in
       record {
-        tabled = λ k r within. tabled (record { path = path; index = k }) (get_or (logs_of trace path) k r) (slice_get-get_or (logs_of trace path) k r within);
+        tabled = all_by (IsTabled format) (logs_of trace path) (λ k r found. tabled (record { path = path; index = k }) r found);
         spans = s.spans;
         has_spans = lists_spans (rows_of trace) path s.spans s.are;
         due_barriers = d.due;
@@ -270,14 +270,14 @@ module _ {format : Format} (trace : Trace) (tree : IsForkJoin (logs_of trace)) (
         keeps = breaks_none path s.spans (lists_spans (rows_of trace) path s.spans s.are) d;
       }
 
-  keeps_task : (index : ℕ) (task : TaskLog) → slice_get trace index ≡ Some task → TaskKeepsRules format trace task
-  keeps_task index task found =
-      subst (λ (records : List Record). TaskKeepsRules format trace (record { path = task.path; records = records }))
-      (logs_at trace (subst IsListing (paths_same trace) rows.lists) index task found)
-      (task_keeps task.path (path_at trace index task found))
-
   pub keeps_rules : KeepsRules format trace
-  keeps_rules = record { rows = rows; tasks = λ k task within. keeps_task k (get_or trace k task) (slice_get-get_or trace k task within) }
+  keeps_rules = record {
+    rows = rows;
+    tasks = all_by (TaskKeepsRules format trace) trace (λ index task found.
+        subst (λ (records : List Record). TaskKeepsRules format trace (record { path = task.path; records = records }))
+        (logs_at trace (subst IsListing (paths_same trace) rows.lists) index task found)
+        (task_keeps task.path (path_at trace index task found)));
+  }
 
 pub rules_kept : (format : Format) (trace : Trace) → KeepsRules format trace ↔ (IsForkJoin (logs_of trace) × AreRows (rows_of trace) × AreTabled format (logs_of trace) × AreNested (logs_of trace))
 rules_kept format trace = (

@@ -14,7 +14,6 @@ use std::sync::Wait;
 use std::test::Fail;
 use std::thread::{Builder, Threads};
 use sw_base::Memory;
-use top_call::STACK;
 
 // Each lane adds 1 to every other element.
 const COUNT: &str =
@@ -292,14 +291,14 @@ const NO_TEXT: &[Case<'static>] = &[
     },
 ];
 
-// A sum that is nearly as deep as its text is long.
+// A sum that is nearly as deep as its text is long, in each of two lanes.
 fn long_sum(rt: &impl Abort, alloc: Global) -> String {
-    let before = "array a i64 1 main { parallel 1 { for i in 0 .. 1 { a[0] = 1";
+    let before = "array a i64 2 main { parallel 2 { a[tid] = 1";
     let mut kernel = String::from_str(alloc, before).expect(rt, "memory");
     for _ in 0..32_000 {
         kernel.push_str("+1").expect(rt, "memory");
     }
-    kernel.push_str(" } } }").expect(rt, "memory");
+    kernel.push_str(" } }").expect(rt, "memory");
     kernel
 }
 
@@ -311,8 +310,11 @@ fn prints_long_sum<R: Abort + Threads + Wait + Sync + Copy + Send + 'static>(
     let kernel = long_sum(rt, alloc);
     folder.hold("k", kernel.as_bytes()).expect(rt, "memory");
     let (status, out) = printed(rt, alloc, &mut folder, RUN, &[]);
-    status == DONE && out.written() == b"tasks 2\nrecords 5\nsum a 32001\n".as_slice()
+    status == DONE && out.written() == b"tasks 3\nrecords 6\nsum a 64002\n".as_slice()
 }
+
+// Much less than a call for each term would take. The first lane is on this stack, too.
+const STACK: usize = 1 << 20;
 
 #[test]
 fn a_long_sum_is_run(rt: HostRuntime) -> Result<(), Fail> {

@@ -1,4 +1,4 @@
-use Rattle.std.proofs.Common.{◌≡◌, ℕ, ◌+◌, ◌≤◌, false, not, ◌||◌, List, ◌∷◌, length, [], w64, subst, Result, refl, sym, ap, ◌∙◌, arith, rules}
+use Rattle.std.proofs.Common.{◌≡◌, ℕ, ◌+◌, ◌≤◌, not, ◌||◌, List, ◌∷◌, length, [], w64, subst, Result, refl, sym, ap, ◌∙◌, arith, rules}
 use Rattle.std.proofs.lemmas.Result.{err_from_is_err_and}
 use Rattle.std.proofs.lemmas.List.{nil_from_length}
 use Rattle.std.proofs.lemmas.Int.{to_z-of_z}
@@ -9,10 +9,9 @@ use Rattle.kernel_syntax.specs.Program.{code_of}
 use Rattle.kernel_text.specs.Grammar.{Stmts, NoMore}
 use Rattle.kernel_parser.specs.Trees.{tree_of, schedule_tree, stmt_before, stmts_of}
 use Rattle.kernel_parser.specs.declared.tree.Statement.{Statement}
-use Rattle.kernel_parser.proofs.Equations.{before_let, before_assign, before_store, before_update, before_if, before_if_else, before_loop, before_parallel, before_for, before_barrier, before_critical, before_critical_of}
+use Rattle.kernel_parser.proofs.Equations.{before_if, before_if_else, before_loop, before_parallel, before_for, before_critical, before_critical_of}
 use Rattle.kernel_reader.specs.Scope.{count_literal, slots}
-use Rattle.kernel_text.specs.declared.fault.KernelWhy.TheVariants as why
-use Rattle.kernel_reader.specs.Rules.{fault_if, is_misplaced, declared_faults, assigned_faults, array_faults, tree_faults, critical_faults, in_critical, is_fixed}
+use Rattle.kernel_reader.specs.Rules.{critical_faults, in_critical, is_fixed}
 use Rattle.kernel_reader.specs.Resolve.{sites, stmts_sites}
 use Rattle.kernel_reader.specs.Sections.{region_faults, region_section}
 use Rattle.kernel_reader.specs.Folding.{names_at, IsFirstRead, IsLeft}
@@ -21,9 +20,10 @@ use Rattle.kernel_reader.specs.declared.place.State.{State}
 use Rattle.kernel_reader.specs.declared.place.Section.{Section}
 use Rattle.kernel_reader.specs.declared.statements.Added.{Added}
 use Rattle.kernel_reader.proofs.Sizes.{apart, size}
-use Rattle.kernel_reader.proofs.Firsts.{part-2, part-3, loop-range-first, loop-body-first, for-range-first, for-schedule-first, for-body-first}
-use Rattle.kernel_reader.proofs.Advances.{let-read, assign-read, store-read, update-read, barrier-read, if-read, if-else-read, loop-read, for-read, region-read, critical-read, critical-of-read, place-branch, place-loop, place-work, take-back}
+use Rattle.kernel_reader.proofs.Firsts.{loop-range-first, loop-body-first, for-range-first, for-schedule-first, for-body-first}
+use Rattle.kernel_reader.proofs.Advances.{if-read, if-else-read, loop-read, for-read, region-read, critical-read, critical-of-read, place-branch, place-loop, place-work, take-back}
 use Rattle.kernel_reader.proofs.Lefts.{left-ends, left-fails, left-steps, take-through}
+use Rattle.kernel_reader.proofs.Simple.{is_simple}
 use Rattle.kernel_reader.proofs.place.Known.+statements.Goals as goal
 
 -- a statement by its variant
@@ -250,26 +250,6 @@ stmt-for_stmt-requires t c =
     let most = c.requires.slots in
     (omega (arith, falls, z), (c.requires.few, (c.requires.few_mutexes, (omega (arith, e, room), omega (arith, d, most)))))
 
-pub stmt-let_stmt-requires-clause-room : goal.stmt-let_stmt-requires-clause-room
-stmt-let_stmt-requires-clause-room t c =
-    let e : stmts_sites (stmt_before c.args.stmt.now NoMore) ≡ sites (tree_of c.in-Let.value) + 0 = ap stmts_sites (ap (λ (s : Statement). stmt_before s NoMore) c.in-Let.is ∙ before_let c.in-Let.line c.in-Let.name_line c.in-Let.name c.in-Let.sign_line c.in-Let.value NoMore) in
-    let room = c.requires.room in omega (arith, e, room)
-
-pub stmt-assign_stmt-requires-clause-room : goal.stmt-assign_stmt-requires-clause-room
-stmt-assign_stmt-requires-clause-room t c =
-    let e : stmts_sites (stmt_before c.args.stmt.now NoMore) ≡ sites (tree_of c.in-Assign.value) + 0 = ap stmts_sites (ap (λ (s : Statement). stmt_before s NoMore) c.in-Assign.is ∙ before_assign c.in-Assign.line c.in-Assign.name c.in-Assign.sign_line c.in-Assign.value NoMore) in
-    let room = c.requires.room in omega (arith, e, room)
-
-pub stmt-store_stmt-requires-clause-room : goal.stmt-store_stmt-requires-clause-room
-stmt-store_stmt-requires-clause-room t c =
-    let e : stmts_sites (stmt_before c.args.stmt.now NoMore) ≡ 1 + (sites (tree_of c.in-Store.index) + (sites (tree_of c.in-Store.value) + 0)) = ap stmts_sites (ap (λ (s : Statement). stmt_before s NoMore) c.in-Store.is ∙ before_store c.in-Store.line c.in-Store.name c.in-Store.opened c.in-Store.index c.in-Store.closed c.in-Store.sign_line c.in-Store.value NoMore) in
-    let room = c.requires.room in omega (arith, e, room)
-
-pub stmt-update_stmt-requires-clause-room : goal.stmt-update_stmt-requires-clause-room
-stmt-update_stmt-requires-clause-room t c =
-    let e : stmts_sites (stmt_before c.args.stmt.now NoMore) ≡ 1 + (sites (tree_of c.in-Update.index) + (sites (tree_of c.in-Update.value) + 0)) = ap stmts_sites (ap (λ (s : Statement). stmt_before s NoMore) c.in-Update.is ∙ before_update c.in-Update.line c.in-Update.name_line c.in-Update.name c.in-Update.opened c.in-Update.index c.in-Update.closed c.in-Update.minus c.in-Update.sign_line c.in-Update.value NoMore) in
-    let room = c.requires.room in omega (arith, e, room)
-
 pub stmts-stmt-requires : goal.stmts-stmt-requires
 stmts-stmt-requires t c =
     let split : c.stmts.rest.now ≡ c.in-Some.first.now ∷ c.in-Some.others.now = c.in-Some.ensures.cases.0 in
@@ -284,67 +264,6 @@ stmts-stmt-requires t c =
     let most = c.requires.slots in
     (omega (arith, falls, z, z2, z3), (c.requires.few, (c.requires.few_mutexes, (omega (arith, e, e2, e3, room), omega (arith, d, d2, d3, most)))))
 
-pub stmt-returns-in_err-let_stmt-in-Let-clause-reads : goal.stmt-returns-in_err-let_stmt-in-Let-clause-reads
-stmt-returns-in_err-let_stmt-in-Let-clause-reads t c =
-    let p = err_from_is_err_and c.from_residual.result c.from_residual.ensures.1 in
-    λ rest.
-    let at = ap (λ (s : Statement). stmt_before s rest) c.in-Let.is ∙ before_let c.in-Let.line c.in-Let.name_line c.in-Let.name c.in-Let.sign_line c.in-Let.value rest in
-    rw (p.1, p.2, at, ← c.copy.ensures) (part-2 (declared_faults (names_at c.args.self.now.arrays.now c.args.self.now.mutexes.now c.args.state.now c.args.section) c.in-Let.name_line c.copy.result) (tree_faults (names_at c.args.self.now.arrays.now c.args.self.now.mutexes.now c.args.state.now c.args.section).names false (tree_of c.in-Let.value)) _ _ c.in_err-let_stmt-in-Let.ensures.settled)
-
-pub stmt-returns-in_ok-let_stmt-in-Let-clause-reads : goal.stmt-returns-in_ok-let_stmt-in-Let-clause-reads
-stmt-returns-in_ok-let_stmt-in-Let-clause-reads t c =
-    λ rest.
-    let at = ap (λ (s : Statement). stmt_before s rest) c.in-Let.is ∙ before_let c.in-Let.line c.in-Let.name_line c.in-Let.name c.in-Let.sign_line c.in-Let.value rest in
-    rw (c.plain.ensures, at, ← c.copy.ensures) (let-read c.args.self.now.arrays.now c.args.self.now.mutexes.now c.args.state.now c.let_stmt.new.state c.args.section c.in-Let.line c.in-Let.name_line c.copy.result c.in-Let.sign_line (tree_of c.in-Let.value) c.in_ok-let_stmt-in-Let.field-0 rest c.in_ok-let_stmt-in-Let.ensures.settled.1 c.in_ok-let_stmt-in-Let.ensures.settled.0 c.in_ok-let_stmt-in-Let.ensures.site c.in_ok-let_stmt-in-Let.ensures.slot c.in_ok-let_stmt-in-Let.ensures.variables)
-
-pub stmt-returns-in_err-assign_stmt-in-Assign-clause-reads : goal.stmt-returns-in_err-assign_stmt-in-Assign-clause-reads
-stmt-returns-in_err-assign_stmt-in-Assign-clause-reads t c =
-    let p = err_from_is_err_and c.from_residual-in_err-assign_stmt-in-Assign.result c.from_residual-in_err-assign_stmt-in-Assign.ensures.1 in
-    λ rest.
-    let at = ap (λ (s : Statement). stmt_before s rest) c.in-Assign.is ∙ before_assign c.in-Assign.line c.in-Assign.name c.in-Assign.sign_line c.in-Assign.value rest in
-    rw (p.1, p.2, at) (part-2 (assigned_faults (names_at c.args.self.now.arrays.now c.args.self.now.mutexes.now c.args.state.now c.args.section) c.in-Assign.line c.in-Assign.name) (tree_faults (names_at c.args.self.now.arrays.now c.args.self.now.mutexes.now c.args.state.now c.args.section).names false (tree_of c.in-Assign.value)) _ _ c.in_err-assign_stmt-in-Assign.ensures.settled)
-
-pub stmt-returns-in_ok-assign_stmt-in-Assign-clause-reads : goal.stmt-returns-in_ok-assign_stmt-in-Assign-clause-reads
-stmt-returns-in_ok-assign_stmt-in-Assign-clause-reads t c =
-    λ rest.
-    let at = ap (λ (s : Statement). stmt_before s rest) c.in-Assign.is ∙ before_assign c.in-Assign.line c.in-Assign.name c.in-Assign.sign_line c.in-Assign.value rest in
-    rw (c.plain-in-Assign.ensures, at) (assign-read c.args.self.now.arrays.now c.args.self.now.mutexes.now c.args.state.now c.assign_stmt.new.state c.args.section c.in-Assign.line c.in-Assign.name c.in-Assign.sign_line (tree_of c.in-Assign.value) c.in_ok-assign_stmt-in-Assign.field-0 rest c.in_ok-assign_stmt-in-Assign.ensures.settled.1 c.in_ok-assign_stmt-in-Assign.ensures.settled.0 c.in_ok-assign_stmt-in-Assign.ensures.site c.in_ok-assign_stmt-in-Assign.ensures.slot c.in_ok-assign_stmt-in-Assign.ensures.variables)
-
-pub stmt-returns-in_err-store_stmt-in-Store-clause-reads : goal.stmt-returns-in_err-store_stmt-in-Store-clause-reads
-stmt-returns-in_err-store_stmt-in-Store-clause-reads t c =
-    let p = err_from_is_err_and c.from_residual-in_err-store_stmt-in-Store.result c.from_residual-in_err-store_stmt-in-Store.ensures.1 in
-    λ rest.
-    let at = ap (λ (s : Statement). stmt_before s rest) c.in-Store.is ∙ before_store c.in-Store.line c.in-Store.name c.in-Store.opened c.in-Store.index c.in-Store.closed c.in-Store.sign_line c.in-Store.value rest in
-    rw (p.1, p.2, at) (part-3 (array_faults (names_at c.args.self.now.arrays.now c.args.self.now.mutexes.now c.args.state.now c.args.section).names false c.in-Store.line c.in-Store.name) (tree_faults (names_at c.args.self.now.arrays.now c.args.self.now.mutexes.now c.args.state.now c.args.section).names false (tree_of c.in-Store.index)) (tree_faults (names_at c.args.self.now.arrays.now c.args.self.now.mutexes.now c.args.state.now c.args.section).names false (tree_of c.in-Store.value)) _ _ c.in_err-store_stmt-in-Store.ensures.settled)
-
-pub stmt-returns-in_err-update_stmt-in-Update-clause-reads : goal.stmt-returns-in_err-update_stmt-in-Update-clause-reads
-stmt-returns-in_err-update_stmt-in-Update-clause-reads t c =
-    let p = err_from_is_err_and c.from_residual-in_err-update_stmt-in-Update.result c.from_residual-in_err-update_stmt-in-Update.ensures.1 in
-    λ rest.
-    let at = ap (λ (s : Statement). stmt_before s rest) c.in-Update.is ∙ before_update c.in-Update.line c.in-Update.name_line c.in-Update.name c.in-Update.opened c.in-Update.index c.in-Update.closed c.in-Update.minus c.in-Update.sign_line c.in-Update.value rest in
-    rw (p.1, p.2, at) (part-3 (array_faults (names_at c.args.self.now.arrays.now c.args.self.now.mutexes.now c.args.state.now c.args.section).names false c.in-Update.name_line c.in-Update.name) (tree_faults (names_at c.args.self.now.arrays.now c.args.self.now.mutexes.now c.args.state.now c.args.section).names false (tree_of c.in-Update.index)) (tree_faults (names_at c.args.self.now.arrays.now c.args.self.now.mutexes.now c.args.state.now c.args.section).names false (tree_of c.in-Update.value)) _ _ c.in_err-update_stmt-in-Update.ensures.settled)
-
-pub stmt-returns-in_ok-store_stmt-in-Store-clause-reads : goal.stmt-returns-in_ok-store_stmt-in-Store-clause-reads
-stmt-returns-in_ok-store_stmt-in-Store-clause-reads t c =
-    λ rest.
-    let at = ap (λ (s : Statement). stmt_before s rest) c.in-Store.is ∙ before_store c.in-Store.line c.in-Store.name c.in-Store.opened c.in-Store.index c.in-Store.closed c.in-Store.sign_line c.in-Store.value rest in
-    rw (c.plain-in-Store.ensures, at) (store-read c.args.self.now.arrays.now c.args.self.now.mutexes.now c.args.state.now c.store_stmt.new.state c.args.section c.in-Store.line c.in-Store.name c.in-Store.opened (tree_of c.in-Store.index) c.in-Store.closed c.in-Store.sign_line (tree_of c.in-Store.value) c.in_ok-store_stmt-in-Store.field-0 rest c.in_ok-store_stmt-in-Store.ensures.settled.1 c.in_ok-store_stmt-in-Store.ensures.settled.0 c.in_ok-store_stmt-in-Store.ensures.site c.in_ok-store_stmt-in-Store.ensures.slot c.in_ok-store_stmt-in-Store.ensures.variables)
-
-pub stmt-returns-in_ok-update_stmt-in-Update-clause-reads : goal.stmt-returns-in_ok-update_stmt-in-Update-clause-reads
-stmt-returns-in_ok-update_stmt-in-Update-clause-reads t c =
-    λ rest.
-    let at = ap (λ (s : Statement). stmt_before s rest) c.in-Update.is ∙ before_update c.in-Update.line c.in-Update.name_line c.in-Update.name c.in-Update.opened c.in-Update.index c.in-Update.closed c.in-Update.minus c.in-Update.sign_line c.in-Update.value rest in
-    rw (c.plain-in-Update.ensures, at) (update-read c.args.self.now.arrays.now c.args.self.now.mutexes.now c.args.state.now c.update_stmt.new.state c.args.section c.in-Update.line c.in-Update.name_line c.in-Update.name c.in-Update.opened (tree_of c.in-Update.index) c.in-Update.closed c.in-Update.minus c.in-Update.sign_line (tree_of c.in-Update.value) c.in_ok-update_stmt-in-Update.field-0 rest c.in_ok-update_stmt-in-Update.ensures.settled.1 c.in_ok-update_stmt-in-Update.ensures.settled.0 c.in_ok-update_stmt-in-Update.ensures.site c.in_ok-update_stmt-in-Update.ensures.slot c.in_ok-update_stmt-in-Update.ensures.variables)
-
-pub stmt-returns-in_err-check_shared-in-Barrier-clause-reads : goal.stmt-returns-in_err-check_shared-in-Barrier-clause-reads
-stmt-returns-in_err-check_shared-in-Barrier-clause-reads t c =
-    let p = err_from_is_err_and c.from_residual-in_err-check_shared-in-Barrier.result c.from_residual-in_err-check_shared-in-Barrier.ensures.1 in
-    λ rest.
-    let at = ap (λ (s : Statement). stmt_before s rest) c.in-Barrier.is ∙ before_barrier c.in-Barrier.line rest in
-    rw (p.1, p.2, at) (part-2 (fault_if (is_misplaced (names_at c.args.self.now.arrays.now c.args.self.now.mutexes.now c.args.state.now c.args.section)) c.in-Barrier.line why.BarrierHere) (fault_if c.args.section.uneven c.in-Barrier.line why.NotUniform) _ _ c.in_err-check_shared-in-Barrier.ensures)
-
-pub stmt-returns-in_ok-check_shared-in-Barrier-clause-reads : goal.stmt-returns-in_ok-check_shared-in-Barrier-clause-reads
-stmt-returns-in_ok-check_shared-in-Barrier-clause-reads t c =
-    λ rest.
-    let at = ap (λ (s : Statement). stmt_before s rest) c.in-Barrier.is ∙ before_barrier c.in-Barrier.line rest in
-    rw (c.plain-in-Barrier.ensures, at) (barrier-read c.args.self.now.arrays.now c.args.self.now.mutexes.now c.args.state.now c.args.state.now c.args.section c.in-Barrier.line c.made_barrier.result rest c.made_barrier.ensures c.in_ok-check_shared-in-Barrier.ensures.0 refl refl refl)
+pub stmt-simple_stmt-requires-clause-simple : goal.stmt-simple_stmt-requires-clause-simple
+stmt-simple_stmt-requires-clause-simple t c =
+    is_simple c.args.stmt.now c.in_default.not-If c.in_default.not-IfElse c.in_default.not-Loop c.in_default.not-Parallel c.in_default.not-For c.in_default.not-Critical c.in_default.not-CriticalOf

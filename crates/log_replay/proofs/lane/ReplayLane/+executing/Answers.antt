@@ -13,12 +13,13 @@ use Rattle.kernel_syntax.specs.Program.{code_of, stmt_code, term_of}
 use Rattle.kernel_syntax.specs.Share.{even_share_of}
 use Rattle.kernel_syntax.specs.Tree as tree
 use Rattle.kernel_syntax.specs.Tree.{Code, Done}
-use Rattle.kernel_syntax.proofs.Equations.{stmt_code-Set, stmt_code-Store, stmt_code-Update, stmt_code-If, stmt_code-Loop, stmt_code-Parallel, stmt_code-For, stmt_code-Barrier, stmt_code-Critical}
+use Rattle.kernel_syntax.proofs.Equations.{stmt_code-If, stmt_code-Loop, stmt_code-Parallel, stmt_code-For, stmt_code-Barrier, stmt_code-Critical}
 use Rattle.kernel_model.specs.Drawing.{turn_from, draw_once, draw_all}
 use Rattle.kernel_model.specs.Iterations.{total_of, static_iterations, chunk_count, chunk_iterations}
 use Rattle.kernel_model.specs.State.{put, event}
 use Rattle.kernel_model.specs.Trace.{run, turns, each, shared, draw, loop_end}
 use Rattle.kernel_model.specs.Value.{value}
+use Rattle.task_place.proofs.Assigning.{is_assignment}
 use Rattle.log_replay.specs.Following.{Standing, FollowsPart}
 use Rattle.log_replay.specs.Forks.{standing}
 use Rattle.log_replay.proofs.Following.{follows_same, retold}
@@ -347,21 +348,6 @@ statement-returns-else-chosen-eq0-clause-follows g t c =
     (λ is. c.if-chosen-eq0.false (ap (λ (z : ℤ). of_z w64 z) is))
     (retold (g.F.Folder.state c.args.folder.now) (g.F.Folder.state c.value.new.folder) (run c.args.place.now (code_of c.in-If.yes.stmts.items)) (standing c.value.new.self) (standing c.statements-else-chosen-eq0.new.self) c.statements-else-chosen-eq0.result c.value.ensures.reads.same c.statements-else-chosen-eq0.ensures.follows))
 
-pub statement-returns-in-Set-clause-follows : goal.statement-returns-in-Set-clause-follows
-statement-returns-in-Set-clause-follows g t c =
-    subst (λ (x : Code). FollowsPart (g.F.Folder.state c.args.folder.now) (run c.args.place.now x) (standing c.args.self.now) (standing c.assign.new.self) c.assign.result) (sym (ap (λ (s : Stmt). stmt_code s Done) c.in-Set.is ∙ stmt_code-Set c.in-Set.slot c.in-Set.value Done))
-    (c.assign.ensures.follows)
-
-pub statement-returns-in-Store-clause-follows : goal.statement-returns-in-Store-clause-follows
-statement-returns-in-Store-clause-follows g t c =
-    subst (λ (x : Code). FollowsPart (g.F.Folder.state c.args.folder.now) (run c.args.place.now x) (standing c.args.self.now) (standing c.change.new.self) c.change.result) (sym (ap (λ (s : Stmt). stmt_code s Done) c.in-Store.is ∙ stmt_code-Store c.in-Store.array c.in-Store.index c.in-Store.value c.in-Store.line c.in-Store.site Done))
-    (c.change.ensures.follows)
-
-pub statement-returns-in-Update-clause-follows : goal.statement-returns-in-Update-clause-follows
-statement-returns-in-Update-clause-follows g t c =
-    subst (λ (x : Code). FollowsPart (g.F.Folder.state c.args.folder.now) (run c.args.place.now x) (standing c.args.self.now) (standing c.change-in-Update.new.self) c.change-in-Update.result) (sym (ap (λ (s : Stmt). stmt_code s Done) c.in-Update.is ∙ stmt_code-Update c.in-Update.array c.in-Update.index c.in-Update.value c.in-Update.minus c.in-Update.line c.in-Update.site Done))
-    (c.change-in-Update.ensures.follows)
-
 pub statement-returns-in-Loop-clause-follows : goal.statement-returns-in-Loop-clause-follows
 statement-returns-in-Loop-clause-follows g t c =
     subst (λ (x : Code). FollowsPart (g.F.Folder.state c.args.folder.now) (run c.args.place.now x) (standing c.args.self.now) (standing c.looped.new.self) c.looped.result) (sym (ap (λ (s : Stmt). stmt_code s Done) c.in-Loop.is ∙ stmt_code-Loop c.in-Loop.slot c.in-Loop.from c.in-Loop.to c.in-Loop.body Done))
@@ -447,3 +433,6 @@ pub statements-returns-clause-follows : goal.statements-returns-clause-follows
 statements-returns-clause-follows g t c =
     let past : length c.args.body.now.stmts.items ≤ c.loop-stmt.stmt-index = subst (λ (l : List Stmt). length l ≤ c.loop-stmt.stmt-index) c.deref-stmt-items.ensures.value (omega arith) in
     subst (λ (ss : List Stmt). FollowsPart (g.F.Folder.state c.args.folder.now) (run c.args.place.now (code_of ss)) (standing c.args.self.now) (standing c.loop-stmt.self) (Ok tt)) (take_all c.loop-stmt.stmt-index c.args.body.now.stmts.items past) c.loop-stmt.invariant.follows
+
+pub statement-assignment-requires-clause-assigns : goal.statement-assignment-requires-clause-assigns
+statement-assignment-requires-clause-assigns g t c κs given = is_assignment c.args.stmt.now c.in_default.not-If c.in_default.not-Loop c.in_default.not-Parallel c.in_default.not-For c.in_default.not-Barrier c.in_default.not-Critical
