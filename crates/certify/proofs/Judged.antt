@@ -58,9 +58,11 @@ module _ (program : Program) (logs : List WholeLog) (words : List ℕ) (r : RunS
     history = is_ended program (layout_of program.arrays) tasks words r.run.run;
     all = r.run.run.all;
     few = r.run.few;
-    memory = r.memory;
-    goes = r.goes;
-    words_are = r.words_are;
+    made = r.ends.tasks;
+    memory = r.ends.memory;
+    goes = r.ends.goes;
+    logs_are = sym r.ends.logs_are ∙ r.run.logs_are;
+    words_are = r.ends.words_are;
   }
 
   module _ (dir : List ℕ) (told : Option Content) (held : HoldsTasks dir logs told) where

@@ -1,5 +1,5 @@
 -- What a verdict tells of a kernel.
-use Rattle.std.specs.Prelude.{◌≡◌, ◌≢◌, ℕ, ◌+◌, ◌<◌, ◌≤◌, List, [], length, sum_by, take, slice_get, slice_index, Some}
+use Rattle.std.specs.Prelude.{◌≡◌, ◌≢◌, ℕ, ◌+◌, ◌<◌, ◌≤◌, List, [], map, length, sum_by, take, slice_get, slice_index, Some}
 use Rattle.sw_base.specs.declared.path.Step.{Step}
 use Rattle.race_model.specs.FirstBad.{segments_in}
 use Rattle.race_model.specs.IndexFault.{max_rows}
@@ -15,7 +15,7 @@ use Rattle.kernel_model.specs.Lawful.{IsLawful}
 use Rattle.certainty_model.specs.Certain.{AreSame, IsCertain, IsFixed, IsRun}
 use Rattle.certify.specs.Constructs.{construct_lines}
 use Rattle.serial_model.specs.Order.{HasSerialHistory}
-use Rattle.serial_laws.specs.SerialRuns.{LogsSerialRun}
+use Rattle.serial_laws.specs.SerialRuns.{EndsSerially, LogsSerialRun, spelled}
 use Rattle.serial_steps.specs.Lanes.{Still, GoesSerially}
 use Rattle.serial_team.specs.Members.{WholeLog}
 use Rattle.execution_model.specs.Elements.{element_address, layout_of}
@@ -29,7 +29,7 @@ record_total tasks = sum_by (λ (task : TaskLog). length task.records) tasks
 
 -- The serial run of the kernel, which is fixed: these tasks are those of a whole run, in the order of an index, and a legal history of them in
 -- serial order ends with these words, one for each element. They are no more than an index has rows; and lane after lane, with room for so many
--- records, the run comes to its end with them, and these words are what it leaves.
+-- records, the run comes to its end with logs that are the same byte for byte, and these words are what it leaves.
 pub record RunsTo (program : Program) (tasks : Trace) (words : List ℕ) : Type 0 where
   pub fixed : IsFixed program.main.body
   pub traced : IsTracedFolder program tasks
@@ -37,8 +37,10 @@ pub record RunsTo (program : Program) (tasks : Trace) (words : List ℕ) : Type 
   pub history : HasSerialHistory (logs_of tasks) (element_address program.arrays) words
   pub all : length words ≡ elements program.arrays
   pub few : length tasks ≤ max_rows
+  pub made : Trace
   pub memory : ℕ → ℕ
-  pub goes : GoesSerially program MOST_RECORDS tasks memory Still.at_end
+  pub goes : GoesSerially program MOST_RECORDS made memory Still.at_end
+  pub logs_are : map spelled made ≡ map spelled tasks
   pub words_are : (word : ℕ) → word < length words → slice_index words word ≡ memory (element_address program.arrays word)
 
 -- the serial run of the kernel, which is fixed, ends so, with room for so many records
@@ -99,6 +101,4 @@ pub record RunSpells (program : Program) (logs : List WholeLog) (words : List �
   pub fixed : IsFixed program.main.body
   pub lawful : IsLawful program
   pub run : LogsSerialRun program (layout_of program.arrays) MOST_RECORDS logs words
-  pub memory : ℕ → ℕ
-  pub goes : GoesSerially program MOST_RECORDS run.tasks memory Still.at_end
-  pub words_are : (word : ℕ) → word < length words → slice_index words word ≡ memory (element_address program.arrays word)
+  pub ends : EndsSerially program (layout_of program.arrays) MOST_RECORDS logs words

@@ -1,15 +1,22 @@
 -- A kernel has one verdict.
-use Rattle.std.proofs.Common.{◌≡◌, ℕ, ◌<◌, ◌≤◌, List, [], ◌∷◌, length, get_or, Some, refl, sym, ap, subst, ◌∙◌, arith}
+use Rattle.std.proofs.Common.{◌≡◌, ℕ, ◌<◌, ◌≤◌, List, [], ◌∷◌, map, length, get_or, Some, refl, sym, ap, subst, ◌∙◌, arith}
 use Rattle.std.proofs.lemmas.Grind.{same_number_lists}
-use Rattle.std.specs.Prelude.{Contains, slice_get}
+use Rattle.std.specs.Prelude.{All, Contains, slice_get}
+use Rattle.std.proofs.lemmas.List.Elements.{All-head, All-tail, All-weaker}
 use Rattle.std.proofs.lemmas.Option.{same_Some}
 use Rattle.sw_base.specs.declared.path.Step.{Step}
+use Rattle.log_format.specs.declared.format.TheConstants.{FORMAT}
+use Rattle.log_format.specs.Format.{log_header}
+use Rattle.log_format.specs.Table.{IsTabled}
+use Rattle.log_format.proofs.Logs.{log_bytes-injective}
 use Rattle.race_model.specs.FirstBad.{segments_in}
+use Rattle.race_model.specs.KeepsRules.{TaskKeepsRules}
 use Rattle.race_model.specs.LogFault.{max_segments}
 use Rattle.race_model.specs.Race.{IsRacePair, Lists}
-use Rattle.race_model.specs.Trace.{Trace, logs_of}
+use Rattle.race_model.specs.Trace.{TaskLog, Trace, logs_of}
 use Rattle.kernel_syntax.specs.Program.{Program}
 use Rattle.kernel_model.specs.Lawful.{IsLawful}
+use Rattle.kernel_rules.proofs.LawfulFolder.{folder_keeps}
 use Rattle.certainty_model.specs.Certain.{IsFixed}
 use Rattle.certify.proofs.Fixed.{have_none}
 use Rattle.certify.specs.Constructs.{construct_lines}
@@ -19,11 +26,34 @@ use Rattle.certify.specs.declared.certifying.TheConstants.{MOST_RECORDS}
 use Rattle.certify.specs.declared.verdict.Verdict.{Verdict}
 use Rattle.certify.specs.declared.verdict.Verdict.TheVariants as verdict
 use Rattle.execution_model.specs.Elements.{element_address}
+use Rattle.serial_team.specs.Members.{WholeLog}
+use Rattle.serial_laws.specs.SerialRuns.{spelled}
 use Rattle.serial_steps.specs.Lanes.{Still, GoesSerially}
 use Rattle.serial_steps.proofs.OneRun.{one_run}
 use Rattle.certify.specs.Verdicts.{EndsAs, HasCertainRun, HasRaces, OpensOneTooMany, OpensTheFirst, RunsTo, Tells, record_total}
 use Rattle.certify_laws.specs.Same.{SayTheSame}
 use Rattle.certify_laws.proofs.TooMany.{not_few, same_first}
+
+abbrev AreTabled : TaskLog → Type 0
+AreTabled task = All (IsTabled FORMAT) task.records
+
+-- logs that are the same are of the same tasks, where their records are of the table
+task_once : (t u : TaskLog) → spelled u ≡ spelled t → AreTabled t → AreTabled u → u ≡ t
+task_once t u same here there =
+    let path = ap (λ (log : WholeLog). log.path) same in
+    let records = log_bytes-injective (log_header FORMAT) u.records t.records there here (ap (λ (log : WholeLog). log.bytes) same) in
+    λ i. record { path = path i; records = records i }
+
+tasks_once : (ts us : Trace) → map spelled us ≡ map spelled ts → All AreTabled ts → All AreTabled us → us ≡ ts
+tasks_once [] [] same here there = refl
+tasks_once [] (u ∷ us) same here there = cc
+tasks_once (t ∷ ts) [] same here there = cc
+tasks_once (t ∷ ts) (u ∷ us) same here there =
+    let first : spelled u ≡ spelled t = cc in
+    let others : map spelled us ≡ map spelled ts = cc in
+    let head = task_once t u first (All-head AreTabled t ts here) (All-head AreTabled u us there) in
+    let tail = tasks_once ts us others (All-tail AreTabled t ts here) (All-tail AreTabled u us there) in
+    λ i. head i ∷ tail i
 
 -- a fixed kernel has no construct
 no_construct : (program : Program) (line : ℕ) → slice_get (construct_lines program.main.body) 0 ≡ Some line → IsFixed program.main.body → ⊥
@@ -36,14 +66,19 @@ module _ (program : Program) (lawful : IsLawful program) where
       → (us ≡ ts) × (also ≡ memory) × (other ≡ end)
   ends_once ts us memory also end other fixed = one_run program lawful fixed MOST_RECORDS ts us memory also end other
 
+  are_tabled : (ts : Trace) (words : List ℕ) → RunsTo program ts words → All AreTabled ts
+  are_tabled ts words a = All-weaker (TaskKeepsRules FORMAT ts) AreTabled (λ (task : TaskLog) keeps. keeps.tabled) ts (folder_keeps program lawful ts a.traced a.listed a.few).tasks
+
   same_run : (ts us : Trace) (words final : List ℕ) → RunsTo program ts words → RunsTo program us final → us ≡ ts
-  same_run ts us words final a b = (ends_once ts us a.memory b.memory Still.at_end Still.at_end a.fixed a.goes b.goes).0
+  same_run ts us words final a b =
+      let made = (ends_once a.made b.made a.memory b.memory Still.at_end Still.at_end a.fixed a.goes b.goes).0 in
+      tasks_once ts us (sym b.logs_are ∙ (ap (λ (tasks : Trace). map spelled tasks) made ∙ a.logs_are)) (are_tabled ts words a) (are_tabled us final b)
 
   -- it leaves one memory
   same_words : (ts us : Trace) (words final : List ℕ) → RunsTo program ts words → RunsTo program us final → final ≡ words
   same_words ts us words final a b = same_number_lists final words (b.all ∙ sym a.all) each where
     memory : b.memory ≡ a.memory
-    memory = (ends_once ts us a.memory b.memory Still.at_end Still.at_end a.fixed a.goes b.goes).1.0
+    memory = (ends_once a.made b.made a.memory b.memory Still.at_end Still.at_end a.fixed a.goes b.goes).1.0
 
     each : (k : ℕ) → k < length final → get_or final k 0 ≡ get_or words k 0
     each k less =
@@ -85,10 +120,10 @@ module _ (program : Program) (lawful : IsLawful program) where
   same_end end other a b = (ends_once a.tasks b.tasks a.memory b.memory end other a.fixed a.goes b.goes).1.1
 
   long_or_ran : (path : List Step) (n : ℕ) (tasks : Trace) (words : List ℕ) → EndsAs program (Still.too_long path n) → RunsTo program tasks words → ⊥
-  long_or_ran path n tasks words l r = let same = (ends_once l.tasks tasks l.memory r.memory (Still.too_long path n) Still.at_end l.fixed l.goes r.goes).1.1 in cc
+  long_or_ran path n tasks words l r = let same = (ends_once l.tasks r.made l.memory r.memory (Still.too_long path n) Still.at_end l.fixed l.goes r.goes).1.1 in cc
 
   stop_or_ran : (path : List Step) (line : ℕ) (why : StopWhy) (tasks : Trace) (words : List ℕ) → EndsAs program (Still.stopped path line why) → RunsTo program tasks words → ⊥
-  stop_or_ran path line why tasks words l r = let same = (ends_once l.tasks tasks l.memory r.memory (Still.stopped path line why) Still.at_end l.fixed l.goes r.goes).1.1 in cc
+  stop_or_ran path line why tasks words l r = let same = (ends_once l.tasks r.made l.memory r.memory (Still.stopped path line why) Still.at_end l.fixed l.goes r.goes).1.1 in cc
 
   long_or_stop : (path other : List Step) (n line : ℕ) (why : StopWhy) → EndsAs program (Still.too_long path n) → EndsAs program (Still.stopped other line why) → ⊥
   long_or_stop path other n line why l s = let same = same_end (Still.too_long path n) (Still.stopped other line why) l s in cc

@@ -3,6 +3,8 @@ use Rattle.kernel_syntax.specs.Layout.{elements}
 use Rattle.kernel_syntax.specs.Program.{Program, program_of}
 use Rattle.serial_run.specs.Placing.{ElementLayout, TellsWords}
 use Rattle.serial_team.specs.Members.{whole_log}
+use Rattle.serial_laws.proofs.LaneTasks.{root_ends}
+use Rattle.serial_laws.proofs.LaneStopsTasks.{root_is_long, root_stops}
 use Rattle.serial_laws.proofs.Root.{logs_run}
 use Rattle.certify.specs.declared.certifying.TheConstants.{MOST_RECORDS}
 use Rattle.certify.proofs.Layouts.{element_layout, tells_words}
@@ -13,15 +15,29 @@ judge-requires-after_bounds g c κs within =
     let program = program_of c.args.kernel.now in
     let layout = element_layout program in
     let tells = tells_words program c.requires.bounded in
+    let fixed = c.first_construct.ensures.fixed c.in_default.is in
+    let ran = c.in-Ok.ensures.ran layout tells in
     record {
-      fixed = c.first_construct.ensures.fixed c.in_default.is;
+      fixed = fixed;
       lawful = c.requires;
-      run = logs_run layout program c.requires tells refl MOST_RECORDS _ _ (c.in-Ok.ensures.ran layout tells);
-      ran = c.in-Ok.ensures.ran layout tells;
+      run = logs_run layout program c.requires tells refl MOST_RECORDS _ _ ran;
+      ends = root_ends layout refl program c.requires fixed tells MOST_RECORDS _ _ ran;
     }
 
 pub returns-in-Err-Long : goal.returns-in-Err-Long
-returns-in-Err-Long g c = record { tells = (c.first_construct.ensures.fixed c.in_default.is, rw c.in-Err-Long.field-0-is (rw c.in-Err-Long.field-0-is at c.in-Err-Long.ensures.stopped (element_layout (program_of c.args.kernel.now)) (tells_words (program_of c.args.kernel.now) c.requires.bounded))) }
+returns-in-Err-Long g c =
+    let program = program_of c.args.kernel.now in
+    let layout = element_layout program in
+    let tells = tells_words program c.requires.bounded in
+    let fixed = c.first_construct.ensures.fixed c.in_default.is in
+    let l = root_is_long layout refl program c.requires fixed tells MOST_RECORDS _ (rw c.in-Err-Long.field-0-is (rw c.in-Err-Long.field-0-is at c.in-Err-Long.ensures.stopped layout tells)) in
+    record { tells = record { fixed = fixed; tasks = l.tasks; memory = l.memory; goes = l.goes } }
 
 pub returns-in-Err-Stopped : goal.returns-in-Err-Stopped
-returns-in-Err-Stopped g c = record { tells = (c.first_construct.ensures.fixed c.in_default.is, rw c.in-Err-Stopped.field-0-is (rw c.in-Err-Stopped.field-0-is at c.in-Err-Stopped.ensures.stopped (element_layout (program_of c.args.kernel.now)) (tells_words (program_of c.args.kernel.now) c.requires.bounded))) }
+returns-in-Err-Stopped g c =
+    let program = program_of c.args.kernel.now in
+    let layout = element_layout program in
+    let tells = tells_words program c.requires.bounded in
+    let fixed = c.first_construct.ensures.fixed c.in_default.is in
+    let s = root_stops layout refl program c.requires fixed tells MOST_RECORDS _ (rw c.in-Err-Stopped.field-0-is (rw c.in-Err-Stopped.field-0-is at c.in-Err-Stopped.ensures.stopped layout tells)) in
+    record { tells = record { fixed = fixed; tasks = s.tasks; memory = s.memory; goes = s.goes } }
