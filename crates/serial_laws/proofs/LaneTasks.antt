@@ -100,10 +100,10 @@ module _ (layout : ElementLayout) (by_log : layout.bound ≡ OfLog) (program : P
   abbrev pub Ready : List Step → ℕ → MemberValue → SerialTask → Type 0
   Ready at number x t = IsLane at number x t × CameTo x t
 
-  later_is : (x : MemberValue) (t : SerialTask) (p : Pool) → IsTask x t → IsTask (later x p) t
+  pub later_is : (x : MemberValue) (t : SerialTask) (p : Pool) → IsTask x t → IsTask (later x p) t
   later_is x t p i = record { log = i.log; count = i.count; forked = i.forked; below = i.below; fixed = i.fixed; arrays = i.arrays }
 
-  later_came : (x : MemberValue) (t : SerialTask) (p : Pool) → CameTo x t → CameTo (later x p) t
+  pub later_came : (x : MemberValue) (t : SerialTask) (p : Pool) → CameTo x t → CameTo (later x p) t
   later_came x t p c = record { first = c.first; begun = c.begun; forks = c.forks; come = Comes.waits x.stand t.records c.forks p.words p.left c.come; many = c.many }
 
   -- how it stands still
@@ -125,10 +125,10 @@ module _ (layout : ElementLayout) (by_log : layout.bound ≡ OfLog) (program : P
 
   module _ (x : MemberValue) (t : SerialTask) (s : Shared) (i : IsTask x t) (shares : Shares (pool_at x.stand) s) (mark : Record) (new : SerialProgress) (a : Adds layout x.stand.progress new (mark ∷ []))
       (same : (words : List ℕ) → words_after layout mark.kind mark words ≡ words) where
-    abbrev there : SerialTask
+    abbrev pub there : SerialTask
     there = with_records t a.plain
 
-    abbrev all : Shared
+    abbrev pub all : Shared
     all = after_records s a.plain
 
     sum : length a.added ≡ length a.plain + 1
@@ -158,7 +158,7 @@ module _ (layout : ElementLayout) (by_log : layout.bound ≡ OfLog) (program : P
     regions = let none = plain_forks a.plain a.plain_is in omega (arith, regions_both t.records a.plain, none)
 
     -- it makes the accesses, and then does this
-    before_mark : (u : SerialTask) (q : Shared) (end : Still) → BeginsTrace program t.start (there.records ++ mark ∷ []) → TaskGoes program there all u q end → TaskGoes program t s u q end
+    pub before_mark : (u : SerialTask) (q : Shared) (end : Still) → BeginsTrace program t.start (there.records ++ mark ∷ []) → TaskGoes program there all u q end → TaskGoes program t s u q end
     before_mark u q end begun goes =
         accesses_go layout placed program a.plain (mark ∷ []) t u s q end x.stand.progress.words new.words i.fixed
         (subst (λ (l : List Record). BeginsTrace program t.start l) (append_assoc t.records a.plain (mark ∷ [])) begun) a.plain_is
@@ -281,7 +281,7 @@ module _ (layout : ElementLayout) (by_log : layout.bound ≡ OfLog) (program : P
   each_both P Q (x ∷ xs) [] one other = absurd one
   each_both P Q (x ∷ xs) (y ∷ ys) one other = ((one.0, other.0), each_both P Q xs ys one.1 other.1)
 
-  all_ready : (at : List Step) (number : ℕ) (xs : List MemberValue) (ts : List SerialTask) → Each (IsLane at number) xs ts → Each CameTo xs ts → Each (Ready at number) xs ts
+  pub all_ready : (at : List Step) (number : ℕ) (xs : List MemberValue) (ts : List SerialTask) → Each (IsLane at number) xs ts → Each CameTo xs ts → Each (Ready at number) xs ts
   all_ready at number xs ts = each_both (IsLane at number) CameTo xs ts
 
   -- the logs of the lanes are those of their tasks
@@ -307,22 +307,22 @@ module _ (layout : ElementLayout) (by_log : layout.bound ≡ OfLog) (program : P
     waits : All (λ (y : MemberValue). y.stage ≡ stage.Waits) ys → Each CameTo ys us × (tell Still.at_barrier ≡ Still.at_barrier)
     ended : All (λ (y : MemberValue). y.stage ≡ stage.Ended) ys → tell Still.at_end ≡ Still.at_end
 
-  record TeamWent (at : List Step) (number : ℕ) (ys : List MemberValue) (q : Pool) (ts : List SerialTask) (s : Shared) : Type 0 where
-    us : List SerialTask
-    p : Shared
-    end : Still
-    goes : PhaseGoes program ts s us p end
-    are : Each (IsLane at number) ys us
-    shares : Shares q p
-    waits : All (λ (y : MemberValue). y.stage ≡ stage.Waits) ys → Each CameTo ys us × (end ≡ Still.at_barrier)
-    ended : All (λ (y : MemberValue). y.stage ≡ stage.Ended) ys → end ≡ Still.at_end
+  pub record TeamWent (at : List Step) (number : ℕ) (ys : List MemberValue) (q : Pool) (ts : List SerialTask) (s : Shared) : Type 0 where
+    pub us : List SerialTask
+    pub p : Shared
+    pub end : Still
+    pub goes : PhaseGoes program ts s us p end
+    pub are : Each (IsLane at number) ys us
+    pub shares : Shares q p
+    pub waits : All (λ (y : MemberValue). y.stage ≡ stage.Waits) ys → Each CameTo ys us × (end ≡ Still.at_barrier)
+    pub ended : All (λ (y : MemberValue). y.stage ≡ stage.Ended) ys → end ≡ Still.at_end
 
-  record RegionWent (at : List Step) (number : ℕ) (ys : List MemberValue) (q : Pool) (ts : List SerialTask) (s : Shared) : Type 0 where
-    us : List SerialTask
-    p : Shared
-    goes : RegionGoes program ts s us p Still.at_end
-    are : Each (IsLane at number) ys us
-    shares : Shares q p
+  pub record RegionWent (at : List Step) (number : ℕ) (ys : List MemberValue) (q : Pool) (ts : List SerialTask) (s : Shared) : Type 0 where
+    pub us : List SerialTask
+    pub p : Shared
+    pub goes : RegionGoes program ts s us p Still.at_end
+    pub are : Each (IsLane at number) ys us
+    pub shares : Shares q p
 
   -- a lane that waits has come to a barrier, and one that ended to its end
   still_waits : (z : MemberValue) (u : SerialTask) (end : Still) → StillSo z u end → z.stage ≡ stage.Waits → CameTo z u × (end ≡ Still.at_barrier)
@@ -333,7 +333,7 @@ module _ (layout : ElementLayout) (by_log : layout.bound ≡ OfLog) (program : P
   still_ended z u end (inl (waits, is, came)) at = absurd (let e : stage.Waits ≡ stage.Ended = sym waits ∙ at in cc)
   still_ended z u end (inr (ended, is)) at = is
 
-  still_short : (z : MemberValue) (u : SerialTask) (end : Still) → StillSo z u end → IsTooLong end → ⊥
+  pub still_short : (z : MemberValue) (u : SerialTask) (end : Still) → StillSo z u end → IsTooLong end → ⊥
   still_short z u end (inl (waits, is, came)) long = subst IsTooLong is long
   still_short z u end (inr (ended, is)) long = subst IsTooLong is long
 
@@ -382,7 +382,7 @@ module _ (layout : ElementLayout) (by_log : layout.bound ≡ OfLog) (program : P
 
   -- ---- a region
 
-  module _ (path : List Step) (x : MemberValue) (y : Stand) (team : TeamTree) (ys : List MemberValue) (p : Pool) (t : SerialTask) (s : Shared) (same_path : t.path ≡ path) (i : IsTask x t) (c : CameTo x t) (shares : Shares (pool_at x.stand) s)
+  module _ (path : List Step) (x : MemberValue) (y : Stand) (team : TeamTree) (t : SerialTask) (s : Shared) (same_path : t.path ≡ path) (i : IsTask x t) (c : CameTo x t) (shares : Shares (pool_at x.stand) s)
       (a : Advances layout x.stand y (event kind.Region team.line 0 team.span ∷ []) (fork_at team y.slots ∷ [])) where
     abbrev mark : Record
     mark = event kind.Region team.line 0 team.span
@@ -390,10 +390,10 @@ module _ (layout : ElementLayout) (by_log : layout.bound ≡ OfLog) (program : P
     abbrev fork : model.Fork
     fork = fork_at team y.slots
 
-    abbrev t' : SerialTask
+    abbrev pub t' : SerialTask
     t' = there x t s i shares mark y.progress a.makes (λ words. refl)
 
-    abbrev s' : Shared
+    abbrev pub s' : Shared
     s' = all x t s i shares mark y.progress a.makes (λ words. refl)
 
     forked_is : x.forked ≡ region_count t'.records
@@ -427,7 +427,7 @@ module _ (layout : ElementLayout) (by_log : layout.bound ≡ OfLog) (program : P
     pub at_mark : Shares (pool_at y) (after_record s' mark)
     at_mark = record { stands = words x t s i shares mark y.progress a.makes (λ words. refl); left = left x t s i shares mark y.progress a.makes (λ words. refl) }
 
-    module _ (us : List SerialTask) (are : Each (IsLane path x.forked) ys us) where
+    module _ (ys : List MemberValue) (p : Pool) (us : List SerialTask) (are : Each (IsLane path x.forked) ys us) where
       abbrev past : SerialTask
       past = past_lanes t' mark us
 
@@ -463,21 +463,21 @@ module _ (layout : ElementLayout) (by_log : layout.bound ≡ OfLog) (program : P
     lane_went _ _ _ _ (LaneRuns.waits path x y line a) t s same i c shares = waits_so x t s i c shares y line a
     lane_went _ _ _ _ (LaneRuns.ends path x y f) t s same i c shares = ends_so x t s i c shares y f
     lane_went _ _ _ _ (LaneRuns.forks path x z y team xs ys p phases more a less begin runs few next) t s same i c shares =
-        let one = t' path x y team ys p t s same i c shares a in
-        let here = s' path x y team ys p t s same i c shares a in
+        let one = t' path x y team t s same i c shares a in
+        let here = s' path x y team t s same i c shares a in
         let r = event kind.Region team.line 0 team.span in
         let fork = fork_at team y.slots in
         let w = phases_went path x.forked xs (pool_at y) phases ys p runs (lanes_of one fork) (after_record here r) (omega (arith, begin.some, begin.count))
-        (lanes_begin path x y team ys p t s same i c shares a xs begin) (at_mark path x y team ys p t s same i c shares a) in
-        let later = lane_went path (past_region path x y ys p) more z next (past_lanes one r w.us) w.p same (past_is path x y team ys p t s same i c shares a w.us w.are) (past_came path x y team ys p t s same i c shares a w.us w.are) w.shares in
-        let forks = forks_next path x y team ys p t s same i c shares a in
+        (lanes_begin path x y team t s same i c shares a xs begin) (at_mark path x y team t s same i c shares a) in
+        let later = lane_went path (past_region path x y ys p) more z next (past_lanes one r w.us) w.p same (past_is path x y team t s same i c shares a ys p w.us w.are) (past_came path x y team t s same i c shares a ys p w.us w.are) w.shares in
+        let forks = forks_next path x y team t s same i c shares a in
         record {
           end = later.end;
           u = later.u;
           q = later.q;
           goes = before_mark x t s i shares r y.progress a.makes (λ words. refl) later.u later.q later.end forks.makes.begun
               (TaskGoes.passes one later.u here w.p later.q r fork w.us later.end forks w.goes
-              (subst (λ (n : ℕ). n ≤ task_limit) (below_count path x y team ys p t s same i c shares a w.us w.are) few) later.goes);
+              (subst (λ (n : ℕ). n ≤ task_limit) (below_count path x y team t s same i c shares a ys p w.us w.are) few) later.goes);
           is = later.is;
           path = later.path;
           shares = later.shares;
@@ -502,7 +502,7 @@ module _ (layout : ElementLayout) (by_log : layout.bound ≡ OfLog) (program : P
         let one = lane_went (path_in at number x) (later x p) work y l t s ready.0.0.path (later_is x t p ready.0.0.is) (later_came x t p ready.0.1) shares in
         longer_tail at number x y ys q t ts s ready.0.0 one (lane_at layout (path_in at number x) (later x p) work y l) (tail_went at number xs (pool_at y.stand) works ys q rest ts one.q ready.1 one.shares)
 
-    team_went : (at : List Step) (number : ℕ) (xs : List MemberValue) (p : Pool) (works : List Work) (ys : List MemberValue) (q : Pool) → TeamRuns layout at number xs p works ys q
+    pub team_went : (at : List Step) (number : ℕ) (xs : List MemberValue) (p : Pool) (works : List Work) (ys : List MemberValue) (q : Pool) → TeamRuns layout at number xs p works ys q
         → (ts : List SerialTask) (s : Shared) → 1 ≤ length xs → Each (Ready at number) xs ts → Shares p s → TeamWent at number ys q ts s
     team_went _ _ _ _ _ _ _ (TeamRuns.no_lane at number p) ts s many ready shares = absurd (omega (arith, many))
     team_went _ _ _ _ _ _ _ (TeamRuns.lane at number x y xs ys p q work works l rest) [] s many ready shares = absurd ready
@@ -510,7 +510,7 @@ module _ (layout : ElementLayout) (by_log : layout.bound ≡ OfLog) (program : P
         let one = lane_went (path_in at number x) (later x p) work y l t s ready.0.0.path (later_is x t p ready.0.0.is) (later_came x t p ready.0.1) shares in
         whole_team at number x y ys q t ts s ready.0.0 one (lane_at layout (path_in at number x) (later x p) work y l) (tail_went at number xs (pool_at y.stand) works ys q rest ts one.q ready.1 one.shares)
 
-    phases_went : (at : List Step) (number : ℕ) (xs : List MemberValue) (p : Pool) (phases : Phases) (ys : List MemberValue) (q : Pool) → PhasesRun layout at number xs p phases ys q
+    pub phases_went : (at : List Step) (number : ℕ) (xs : List MemberValue) (p : Pool) (phases : Phases) (ys : List MemberValue) (q : Pool) → PhasesRun layout at number xs p phases ys q
         → (ts : List SerialTask) (s : Shared) → 1 ≤ length xs → Each (Ready at number) xs ts → Shares p s → RegionWent at number ys q ts s
     phases_went _ _ _ _ _ _ _ (PhasesRun.last at number xs ys p q works runs all) ts s many ready shares =
         let w = team_went at number xs p works ys q runs ts s many ready shares in
@@ -536,16 +536,16 @@ module _ (layout : ElementLayout) (by_log : layout.bound ≡ OfLog) (program : P
 -- ---- the root
 
 module _ (layout : ElementLayout) (by_log : layout.bound ≡ OfLog) (program : Program) (lawful : IsLawful program) (fixed : IsFixed program.main.body) (tells : TellsWords program.arrays layout) (left : ℕ) where
-  is_placed : (w : ℕ) → w < layout.count → layout.words.word (layout.words.address w) ≡ w
+  pub is_placed : (w : ℕ) → w < layout.count → layout.words.word (layout.words.address w) ≡ w
   is_placed w less = (of_element layout program lawful tells w less).0
 
-  abbrev zeros : Pool
+  abbrev pub zeros : Pool
   zeros = record { words = replicate (elements program.arrays) 0; left = left }
 
-  abbrev root_task : SerialTask
+  abbrev pub root_task : SerialTask
   root_task = record { path = []; start = root_start program; records = []; below = [] }
 
-  begin_shares : Shares layout by_log program is_placed zeros (record { memory = λ addr. 0; left = left })
+  pub begin_shares : Shares layout by_log program is_placed zeros (record { memory = λ addr. 0; left = left })
   begin_shares =
       let a = begin_agrees layout program lawful tells in
       record { stands = record { count = a.count; each = a.each; fits = a.fits }; left = refl }

@@ -3,6 +3,7 @@ mod Counted
 mod FewerReads
 mod Found
 pub mod Growing
+pub mod LaneStopsTasks
 pub mod LaneTasks
 pub mod Lanes
 mod Lined

@@ -55,3 +55,9 @@ pub record EndsSerially (program : Program) (layout : WordLayout) (room : ℕ) (
   pub goes : GoesSerially program room tasks memory Still.at_end
   pub logs_are : logs ≡ map spelled tasks
   pub words_are : (w : ℕ) → w < length words → slice_index words w ≡ memory (layout.address w)
+
+-- The serial run of the kernel comes to stand still so, lane after lane, with room for so many records: these are its tasks, and the memory that it leaves.
+pub record ComesSerially (program : Program) (room : ℕ) (end : Still) : Type 0 where
+  pub tasks : Trace
+  pub memory : ℕ → ℕ
+  pub goes : GoesSerially program room tasks memory end
