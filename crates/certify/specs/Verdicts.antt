@@ -15,7 +15,7 @@ use Rattle.kernel_model.specs.Lawful.{IsLawful}
 use Rattle.certainty_model.specs.Certain.{AreSame, IsCertain, IsFixed, IsRun}
 use Rattle.certify.specs.Constructs.{construct_lines}
 use Rattle.serial_model.specs.Order.{HasSerialHistory}
-use Rattle.serial_laws.specs.SerialRuns.{EndsSerially, LogsSerialRun, spelled}
+use Rattle.serial_laws.specs.SerialRuns.{ComesSerially, EndsSerially, LogsSerialRun, spelled}
 use Rattle.serial_steps.specs.Lanes.{Still, GoesSerially}
 use Rattle.serial_team.specs.Members.{WholeLog}
 use Rattle.execution_model.specs.Elements.{element_address, layout_of}
@@ -44,11 +44,8 @@ pub record RunsTo (program : Program) (tasks : Trace) (words : List ℕ) : Type 
   pub words_are : (word : ℕ) → word < length words → slice_index words word ≡ memory (element_address program.arrays word)
 
 -- the serial run of the kernel, which is fixed, ends so, with room for so many records
-pub record EndsAs (program : Program) (end : Still) : Type 0 where
-  pub fixed : IsFixed program.main.body
-  pub tasks : Trace
-  pub memory : ℕ → ℕ
-  pub goes : GoesSerially program MOST_RECORDS tasks memory end
+abbrev pub EndsAs : Program → Still → Type 0
+EndsAs program end = IsFixed program.main.body × ComesSerially program MOST_RECORDS end
 
 -- Counted over the logs in their order, this record of the log of the task at this path, from 1, opens the first barrier interval that is too many.
 pub record OpensTheFirst (tasks : Trace) (path : List Step) (number : ℕ) : Type 0 where

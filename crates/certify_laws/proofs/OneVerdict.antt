@@ -117,25 +117,25 @@ module _ (program : Program) (lawful : IsLawful program) where
   -- ---- one end
 
   same_end : (end other : Still) → EndsAs program end → EndsAs program other → other ≡ end
-  same_end end other a b = (ends_once a.tasks b.tasks a.memory b.memory end other a.fixed a.goes b.goes).1.1
+  same_end end other a b = (ends_once a.1.tasks b.1.tasks a.1.memory b.1.memory end other a.0 a.1.goes b.1.goes).1.1
 
   long_or_ran : (path : List Step) (n : ℕ) (tasks : Trace) (words : List ℕ) → EndsAs program (Still.too_long path n) → RunsTo program tasks words → ⊥
-  long_or_ran path n tasks words l r = let same = (ends_once l.tasks r.made l.memory r.memory (Still.too_long path n) Still.at_end l.fixed l.goes r.goes).1.1 in cc
+  long_or_ran path n tasks words l r = let same = (ends_once l.1.tasks r.made l.1.memory r.memory (Still.too_long path n) Still.at_end l.0 l.1.goes r.goes).1.1 in cc
 
   stop_or_ran : (path : List Step) (line : ℕ) (why : StopWhy) (tasks : Trace) (words : List ℕ) → EndsAs program (Still.stopped path line why) → RunsTo program tasks words → ⊥
-  stop_or_ran path line why tasks words l r = let same = (ends_once l.tasks r.made l.memory r.memory (Still.stopped path line why) Still.at_end l.fixed l.goes r.goes).1.1 in cc
+  stop_or_ran path line why tasks words l r = let same = (ends_once l.1.tasks r.made l.1.memory r.memory (Still.stopped path line why) Still.at_end l.0 l.1.goes r.goes).1.1 in cc
 
   long_or_stop : (path other : List Step) (n line : ℕ) (why : StopWhy) → EndsAs program (Still.too_long path n) → EndsAs program (Still.stopped other line why) → ⊥
   long_or_stop path other n line why l s = let same = same_end (Still.too_long path n) (Still.stopped other line why) l s in cc
 
   pub one_verdict : (v w : Verdict) → Tells program v → Tells program w → SayTheSame v w
   one_verdict (verdict.Construct line) (verdict.Construct other) a b = same_Some other line (sym b ∙ a)
-  one_verdict (verdict.Construct line) (verdict.Long path n) a b = absurd (no_construct program line a b.fixed)
-  one_verdict (verdict.Construct line) (verdict.Stopped path k why) a b = absurd (no_construct program line a b.fixed)
+  one_verdict (verdict.Construct line) (verdict.Long path n) a b = absurd (no_construct program line a b.0)
+  one_verdict (verdict.Construct line) (verdict.Stopped path k why) a b = absurd (no_construct program line a b.0)
   one_verdict (verdict.Construct line) (verdict.Segments path n) a b = absurd (no_construct program line a b.runs.fixed)
   one_verdict (verdict.Construct line) (verdict.Racy pairs) a b = absurd (no_construct program line a b.runs.fixed)
   one_verdict (verdict.Construct line) (verdict.Certain n m words) a b = absurd (no_construct program line a b.runs.fixed)
-  one_verdict (verdict.Long path n) (verdict.Construct line) a b = absurd (no_construct program line b a.fixed)
+  one_verdict (verdict.Long path n) (verdict.Construct line) a b = absurd (no_construct program line b a.0)
   one_verdict (verdict.Long path n) (verdict.Long other m) a b =
       let same = same_end (Still.too_long path n) (Still.too_long other m) a b in
       (cc, cc)
@@ -143,7 +143,7 @@ module _ (program : Program) (lawful : IsLawful program) where
   one_verdict (verdict.Long path n) (verdict.Segments other m) a b = absurd (long_or_ran path n b.tasks b.words a b.runs)
   one_verdict (verdict.Long path n) (verdict.Racy pairs) a b = absurd (long_or_ran path n b.tasks b.words a b.runs)
   one_verdict (verdict.Long path n) (verdict.Certain k m words) a b = absurd (long_or_ran path n b.tasks words.items a b.runs)
-  one_verdict (verdict.Stopped path line why) (verdict.Construct k) a b = absurd (no_construct program k b a.fixed)
+  one_verdict (verdict.Stopped path line why) (verdict.Construct k) a b = absurd (no_construct program k b a.0)
   one_verdict (verdict.Stopped path line why) (verdict.Long other n) a b = absurd (long_or_stop other path n line why b a)
   one_verdict (verdict.Stopped path line why) (verdict.Stopped other k also) a b =
       let same = same_end (Still.stopped path line why) (Still.stopped other k also) a b in

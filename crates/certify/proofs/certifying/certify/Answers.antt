@@ -30,8 +30,7 @@ returns-in-Err-Long g c =
     let layout = element_layout program in
     let tells = tells_words program c.requires.bounded in
     let fixed = c.first_construct.ensures.fixed c.in_default.is in
-    let l = root_is_long layout refl program c.requires fixed tells MOST_RECORDS _ (rw c.in-Err-Long.field-0-is (rw c.in-Err-Long.field-0-is at c.in-Err-Long.ensures.stopped layout tells)) in
-    record { tells = record { fixed = fixed; tasks = l.tasks; memory = l.memory; goes = l.goes } }
+    record { tells = (fixed, root_is_long layout refl program c.requires fixed tells MOST_RECORDS _ (rw c.in-Err-Long.field-0-is (rw c.in-Err-Long.field-0-is at c.in-Err-Long.ensures.stopped layout tells))) }
 
 pub returns-in-Err-Stopped : goal.returns-in-Err-Stopped
 returns-in-Err-Stopped g c =
@@ -39,5 +38,4 @@ returns-in-Err-Stopped g c =
     let layout = element_layout program in
     let tells = tells_words program c.requires.bounded in
     let fixed = c.first_construct.ensures.fixed c.in_default.is in
-    let s = root_stops layout refl program c.requires fixed tells MOST_RECORDS _ (rw c.in-Err-Stopped.field-0-is (rw c.in-Err-Stopped.field-0-is at c.in-Err-Stopped.ensures.stopped layout tells)) in
-    record { tells = record { fixed = fixed; tasks = s.tasks; memory = s.memory; goes = s.goes } }
+    record { tells = (fixed, root_stops layout refl program c.requires fixed tells MOST_RECORDS _ (rw c.in-Err-Stopped.field-0-is (rw c.in-Err-Stopped.field-0-is at c.in-Err-Stopped.ensures.stopped layout tells))) }
