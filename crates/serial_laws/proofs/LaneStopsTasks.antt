@@ -23,16 +23,20 @@ use Rattle.serial_steps.specs.Lanes.{Shared, SerialTask, tasks_of, after_record,
 use Rattle.serial_team.proofs.Going.{lane_at}
 use Rattle.serial_team.specs.Members.{Pool, pool_at, MemberValue, later, path_in, BeginTeam}
 use Rattle.serial_team.specs.Running.{past_region, LaneRuns, TeamRuns, PhasesRun}
-use Rattle.serial_team.specs.Stopping.{StopAt, LaneStops, TeamGoes, PhasesStop, RootStopped}
+use Rattle.serial_team.specs.Stopping.{StopAt, LongAt, LaneStops, TeamGoes, PhasesStop, LaneLong, TeamLong, PhasesLong, RootStopped, RootLong}
 use Rattle.serial_laws.specs.SerialRuns.{ComesSerially}
 use Rattle.serial_laws.proofs.Lanes.{with_records, after_records, left_after, records_stand, accesses_go}
 use Rattle.serial_laws.proofs.LaneTasks.{Each, IsTask, CameTo, Shares, Ready, StillSo, RegionWent, later_is, later_came, before_mark, starts_so, all_ready, still_short, t', s', forks_next, lanes_begin, at_mark, past_is, past_came, below_count, lane_went, team_went, phases_went, is_placed, zeros, root_task, begin_shares}
+use Rattle.serial_laws.proofs.TooLong.{has_more, finds_alike}
 use Rattle.serial_laws.proofs.Traced.{fork_at, team_length}
 
 -- ---- what is told of lanes
 
 abbrev stop_of : StopAt → Still
 stop_of first = Still.stopped first.path first.line first.why
+
+abbrev long_of : LongAt → Still
+long_of long = Still.too_long long.path long.number
 
 -- the first stop is told, if any, and no record too many
 abbrev FirstIs : Option StopAt → Still → Type 0
@@ -110,7 +114,7 @@ module _ (layout : ElementLayout) (by_log : layout.bound ≡ OfLog) (program : P
   -- ---- a region, and then this
 
   module _ (path : List Step) (x : MemberValue) (y : Stand) (team : TeamTree) (t : SerialTask) (s : Shared) (same : t.path ≡ path) (i : IsTask layout by_log program placed x t) (c : CameTo layout by_log program placed x t)
-      (shares : Leaves (pool_at x.stand) s) (a : Advances layout x.stand y (event kind.Region team.line 0 team.span ∷ []) (fork_at team y.slots ∷ [])) (P : Shared → Type 0) (end : Still) where
+      (shares : Leaves (pool_at x.stand) s) (a : Advances layout x.stand y (event kind.Region team.line 0 team.span ∷ []) (fork_at team y.slots ∷ [])) where
     abbrev r : Record
     r = event kind.Region team.line 0 team.span
 
@@ -123,8 +127,8 @@ module _ (layout : ElementLayout) (by_log : layout.bound ≡ OfLog) (program : P
     abbrev here : Shared
     here = s' layout by_log program placed path x y team t s same i c shares a
 
-    at_region : TaskTo P one here end → TaskTo P t s end
-    at_region to = record {
+    at_region : (P : Shared → Type 0) (end : Still) → TaskTo P one here end → TaskTo P t s end
+    at_region P end to = record {
       u = to.u;
       p = to.p;
       goes = before_mark layout by_log program placed x t s i shares r y.progress a.makes (λ words. refl) to.u to.p end
@@ -132,17 +136,17 @@ module _ (layout : ElementLayout) (by_log : layout.bound ≡ OfLog) (program : P
       leaves = to.leaves;
     }
 
-    breaks_so : RegionTo P (lanes_of one fork) (after_record here r) end → (end ≡ Still.at_end → ⊥) → TaskTo P t s end
-    breaks_so to stops = at_region (record {
+    breaks_so : (P : Shared → Type 0) (end : Still) → RegionTo P (lanes_of one fork) (after_record here r) end → (end ≡ Still.at_end → ⊥) → TaskTo P t s end
+    breaks_so P end to stops = at_region P end (record {
       u = past_lanes one r to.us;
       p = to.p;
       goes = TaskGoes.breaks one here to.p r fork to.us end (forks_next layout by_log program placed path x y team t s same i c shares a) to.goes stops;
       leaves = to.leaves;
     })
 
-    passes_so : (ys : List MemberValue) (q : Pool) (w : RegionWent layout by_log program placed path x.forked ys q (lanes_of one fork) (after_record here r)) → length (past_region path x y ys q).below ≤ task_limit
+    passes_so : (P : Shared → Type 0) (end : Still) (ys : List MemberValue) (q : Pool) (w : RegionWent layout by_log program placed path x.forked ys q (lanes_of one fork) (after_record here r)) → length (past_region path x y ys q).below ≤ task_limit
         → TaskTo P (past_lanes one r w.us) w.p end → TaskTo P t s end
-    passes_so ys q w few to = at_region (record {
+    passes_so P end ys q w few to = at_region P end (record {
       u = to.u;
       p = to.p;
       goes = TaskGoes.passes one to.u here w.p to.p r fork w.us end (forks_next layout by_log program placed path x y team t s same i c shares a) w.goes
@@ -150,7 +154,18 @@ module _ (layout : ElementLayout) (by_log : layout.bound ≡ OfLog) (program : P
       leaves = to.leaves;
     })
 
+    -- the region ran
+    region_went : (xs ys : List MemberValue) (q : Pool) (phases : Phases) → BeginTeam y.at.arrays team y.slots xs → PhasesRun layout path x.forked xs (pool_at y) phases ys q
+        → RegionWent layout by_log program placed path x.forked ys q (lanes_of one fork) (after_record here r)
+    region_went xs ys q phases begin runs =
+        phases_went layout by_log program placed path x.forked xs (pool_at y) phases ys q runs (lanes_of one fork) (after_record here r) (omega (arith, begin.some, begin.count))
+        (lanes_begin layout by_log program placed path x y team t s same i c shares a xs begin) (at_mark layout by_log program placed path x y team t s same i c shares a)
+
   -- ---- the lanes of a phase
+
+  -- the lanes wait at a barrier, and then go on
+  next_phase : (P : Shared → Type 0) (ts us : List SerialTask) (s p : Shared) (end : Still) → PhaseGoes program ts s us p Still.at_barrier → RegionTo P us p end → RegionTo P ts s end
+  next_phase P ts us s p end goes to = record { us = to.us; p = to.p; goes = RegionGoes.next ts us to.us s p to.p end goes to.goes; leaves = to.leaves }
 
   -- the others of the lanes, if any
   data Others (q : Pool) : List SerialTask → Shared → Option StopAt → Type 0 where
@@ -203,8 +218,7 @@ module _ (layout : ElementLayout) (by_log : layout.bound ≡ OfLog) (program : P
         let here = s' layout by_log program placed path x y team t s same i c shares a in
         let r = event kind.Region team.line 0 team.span in
         let fork = fork_at team y.slots in
-        let w = phases_went layout by_log program placed path x.forked xs (pool_at y) phases ys q runs (lanes_of one fork) (after_record here r) (omega (arith, begin.some, begin.count))
-        (lanes_begin layout by_log program placed path x y team t s same i c shares a xs begin) (at_mark layout by_log program placed path x y team t s same i c shares a) in
+        let w = region_went path x y team t s same i c shares a xs ys q phases begin runs in
         subst (λ (at : List Step). TaskTo (Leaves q) t s (Still.stopped at team.line Tasks)) same
         (at_region path x y team t s same i c shares a (Leaves q) (Still.stopped t.path team.line Tasks)
         (record {
@@ -215,14 +229,10 @@ module _ (layout : ElementLayout) (by_log : layout.bound ≡ OfLog) (program : P
           leaves = w.shares;
         }))
     lane_stops _ _ _ _ _ (LaneStops.onward path x y team xs ys p q phases more first a less begin runs few next) t s same i c shares =
-        let one = t' layout by_log program placed path x y team t s same i c shares a in
-        let here = s' layout by_log program placed path x y team t s same i c shares a in
-        let r = event kind.Region team.line 0 team.span in
-        let fork = fork_at team y.slots in
-        let w = phases_went layout by_log program placed path x.forked xs (pool_at y) phases ys p runs (lanes_of one fork) (after_record here r) (omega (arith, begin.some, begin.count))
-        (lanes_begin layout by_log program placed path x y team t s same i c shares a xs begin) (at_mark layout by_log program placed path x y team t s same i c shares a) in
+        let w = region_went path x y team t s same i c shares a xs ys p phases begin runs in
         passes_so path x y team t s same i c shares a (Leaves q) (stop_of first) ys p w few
-        (lane_stops path (past_region path x y ys p) more q first next (past_lanes one r w.us) w.p same (past_is layout by_log program placed path x y team t s same i c shares a ys p w.us w.are)
+        (lane_stops path (past_region path x y ys p) more q first next (past_lanes (t' layout by_log program placed path x y team t s same i c shares a) (event kind.Region team.line 0 team.span) w.us) w.p same
+        (past_is layout by_log program placed path x y team t s same i c shares a ys p w.us w.are)
         (past_came layout by_log program placed path x y team t s same i c shares a ys p w.us w.are) w.shares)
 
     team_stops : (at : List Step) (number : ℕ) (xs : List MemberValue) (p : Pool) (works : List Work) (q : Pool) (first : Option StopAt) → TeamGoes layout at number xs p works q first
@@ -250,12 +260,76 @@ module _ (layout : ElementLayout) (by_log : layout.bound ≡ OfLog) (program : P
         let w = team_went layout by_log program placed at number xs p works ys q runs ts s many ready shares in
         let wait = w.waits all in
         let to = phases_stop at number ys q phases r first more w.us w.p (omega (arith, many, team_length layout at number xs p works ys q runs)) (all_ready layout by_log program placed at number ys w.us w.are wait.0) w.shares in
-        record {
-          us = to.us;
-          p = to.p;
-          goes = RegionGoes.next ts w.us to.us s w.p to.p (stop_of first) (subst (λ (e : Still). PhaseGoes program ts s w.us w.p e) wait.1 w.goes) to.goes;
-          leaves = to.leaves;
-        }
+        next_phase (Leaves r) ts w.us s w.p (stop_of first) (subst (λ (e : Still). PhaseGoes program ts s w.us w.p e) wait.1 w.goes) to
+
+  -- ---- runs with a record too many
+
+  abbrev Anything : Shared → Type 0
+  Anything s = Unit {0}
+
+  long_lane : (t : SerialTask) (ts : List SerialTask) (s : Shared) (long : LongAt) → TaskTo Anything t s (long_of long) → LanesTo Anything (t ∷ ts) s (long_of long)
+  long_lane t [] s long to = record { us = to.u ∷ []; p = to.p; goes = PhaseGoes.last t to.u s to.p (long_of long) to.goes; leaves = tt }
+  long_lane t (v ∷ ts) s long to = record { us = to.u ∷ v ∷ ts; p = to.p; goes = PhaseGoes.no_more t to.u v ts s to.p (long_of long) to.goes tt; leaves = tt }
+
+  still_then : (z : MemberValue) (u : SerialTask) (end : Still) → StillSo layout by_log program placed z u end → (long : LongAt) → told end (long_of long) ≡ long_of long
+  still_then z u end (inl (waits, is, came)) long = ap (λ (e : Still). told e (long_of long)) is
+  still_then z u end (inr (ended, is)) long = ap (λ (e : Still). told e (long_of long)) is
+
+  mutual
+    lane_long : (path : List Step) (x : MemberValue) (long : LongAt) → LaneLong layout path x long → (t : SerialTask) (s : Shared) → t.path ≡ path
+        → IsTask layout by_log program placed x t → CameTo layout by_log program placed x t → Leaves (pool_at x.stand) s → TaskTo Anything t s (long_of long)
+    lane_long _ _ _ (LaneLong.at_record path x slots last line m none below) t s same i c shares =
+        let finds = finds_alike layout m.added x.stand.progress.words last.words m.gains.finds in
+        let h = has_more layout by_log program t c.first x.stand c.forks c.begun c.come slots last line m none below in
+        let count : length (t.records ++ m.added) ≡ last.count = omega (arith, length-append t.records m.added, m.gains.count, i.count) in
+        subst (λ (at : List Step). TaskTo Anything t s (Still.too_long at (last.count + 1))) same
+        (subst (λ (n : ℕ). TaskTo Anything t s (Still.too_long t.path (n + 1))) count
+        (makes_all x t s i shares last m.added m.plain finds m.gains.left Anything (Still.too_long t.path (length (t.records ++ m.added) + 1)) (record { rest = h.more; begins = h.begins })
+        (record {
+          u = with_records t m.added;
+          p = after_records s m.added;
+          goes = TaskGoes.would_make (with_records t m.added) (after_records s m.added) h (sym (shares_then x t s i shares last m.added m.plain finds m.gains.left).left ∙ none);
+          leaves = tt;
+        })))
+    lane_long _ _ _ (LaneLong.in_lanes path x y team xs long a less begin runs_out) t s same i c shares =
+        breaks_so path x y team t s same i c shares a Anything (long_of long)
+        (phases_long path x.forked xs (pool_at y) long runs_out (lanes_of (t' layout by_log program placed path x y team t s same i c shares a) (fork_at team y.slots))
+        (after_record (s' layout by_log program placed path x y team t s same i c shares a) (event kind.Region team.line 0 team.span)) (omega (arith, begin.some, begin.count))
+        (lanes_begin layout by_log program placed path x y team t s same i c shares a xs begin) (at_mark layout by_log program placed path x y team t s same i c shares a))
+        (λ is. cc)
+    lane_long _ _ _ (LaneLong.past_lanes path x y team xs ys p phases long a less begin runs few next) t s same i c shares =
+        let w = region_went path x y team t s same i c shares a xs ys p phases begin runs in
+        passes_so path x y team t s same i c shares a Anything (long_of long) ys p w few
+        (lane_long path (past_region path x y ys p) long next (past_lanes (t' layout by_log program placed path x y team t s same i c shares a) (event kind.Region team.line 0 team.span) w.us) w.p same
+        (past_is layout by_log program placed path x y team t s same i c shares a ys p w.us w.are) (past_came layout by_log program placed path x y team t s same i c shares a ys p w.us w.are) w.shares)
+
+    team_long : (at : List Step) (number : ℕ) (xs : List MemberValue) (p : Pool) (long : LongAt) → TeamLong layout at number xs p long
+        → (ts : List SerialTask) (s : Shared) → Each (Ready layout by_log program placed at number) xs ts → Leaves p s → LanesTo Anything ts s (long_of long)
+    team_long _ _ _ _ _ (TeamLong.in_lane at number x xs p long l) [] s ready shares = absurd ready
+    team_long _ _ _ _ _ (TeamLong.in_lane at number x xs p long l) (t ∷ ts) s ready shares =
+        long_lane t ts s long (lane_long (path_in at number x) (later x p) long l t s ready.0.0.path (later_is layout by_log program placed x t p ready.0.0.is) (later_came layout by_log program placed x t p ready.0.1) shares)
+    team_long _ _ _ _ _ (TeamLong.past_run at number x y xs p work long l rest) [] s ready shares = absurd ready
+    team_long _ _ _ _ _ (TeamLong.past_run at number x y xs p work long l rest) (t ∷ ts) s ready shares =
+        let one = lane_went layout by_log program placed (path_in at number x) (later x p) work y l t s ready.0.0.path (later_is layout by_log program placed x t p ready.0.0.is) (later_came layout by_log program placed x t p ready.0.1) shares in
+        let to = team_long at number xs (pool_at y.stand) long rest ts one.q ready.1 one.shares in
+        subst (λ (e : Still). LanesTo Anything (t ∷ ts) s e) (still_then y one.u one.end one.still long)
+        (record { us = one.u ∷ to.us; p = to.p; goes = PhaseGoes.lane t one.u ts to.us s one.q to.p one.end (long_of long) one.goes (still_short layout by_log program placed y one.u one.end one.still) to.goes; leaves = tt })
+    team_long _ _ _ _ _ (TeamLong.past_stop at number x xs p q work first long l rest) [] s ready shares = absurd ready
+    team_long _ _ _ _ _ (TeamLong.past_stop at number x xs p q work first long l rest) (t ∷ ts) s ready shares =
+        let one = lane_stops (path_in at number x) (later x p) work q first l t s ready.0.0.path (later_is layout by_log program placed x t p ready.0.0.is) (later_came layout by_log program placed x t p ready.0.1) shares in
+        let to = team_long at number xs q long rest ts one.p ready.1 one.leaves in
+        record { us = one.u ∷ to.us; p = to.p; goes = PhaseGoes.lane t one.u ts to.us s one.p to.p (stop_of first) (long_of long) one.goes (λ is. is) to.goes; leaves = tt }
+
+    phases_long : (at : List Step) (number : ℕ) (xs : List MemberValue) (p : Pool) (long : LongAt) → PhasesLong layout at number xs p long
+        → (ts : List SerialTask) (s : Shared) → 1 ≤ length xs → Each (Ready layout by_log program placed at number) xs ts → Leaves p s → RegionTo Anything ts s (long_of long)
+    phases_long _ _ _ _ _ (PhasesLong.in_phase at number xs p long runs_out) ts s many ready shares =
+        let to = team_long at number xs p long runs_out ts s ready shares in
+        record { us = to.us; p = to.p; goes = RegionGoes.over ts to.us s to.p (long_of long) to.goes (λ is. cc); leaves = tt }
+    phases_long _ _ _ _ _ (PhasesLong.past_phase at number xs ys p q works long runs all more) ts s many ready shares =
+        let w = team_went layout by_log program placed at number xs p works ys q runs ts s many ready shares in
+        let wait = w.waits all in
+        next_phase Anything ts w.us s w.p (long_of long) (subst (λ (e : Still). PhaseGoes program ts s w.us w.p e) wait.1 w.goes)
+        (phases_long at number ys q long more w.us w.p (omega (arith, many, team_length layout at number xs p works ys q runs)) (all_ready layout by_log program placed at number ys w.us w.are wait.0) w.shares)
 
 -- ---- the root
 
@@ -280,4 +354,11 @@ module _ (layout : ElementLayout) (by_log : layout.bound ≡ OfLog) (program : P
       let so = starts_so layout by_log program is_there program.main (replicate program.slots (pos 0)) fixed [] 0 r.before r.begins in
       comes_so (Leaves layout by_log program is_there r.after) (stop_of first)
       (lane_stops layout by_log program is_there [] (later r.before nothing) r.stopped.work r.after first r.stopped.stops root start refl
+      (later_is layout by_log program is_there r.before root nothing so.0) (later_came layout by_log program is_there r.before root nothing so.1) (begin_shares layout by_log program lawful fixed tells left))
+
+  pub root_is_long : (long : LongAt) → RootLong layout program left long → ComesSerially program left (Still.too_long long.path long.number)
+  root_is_long long r =
+      let so = starts_so layout by_log program is_there program.main (replicate program.slots (pos 0)) fixed [] 0 r.before r.begins in
+      comes_so (Anything layout by_log program is_there) (long_of long)
+      (lane_long layout by_log program is_there [] (later r.before nothing) long r.runs_out root start refl
       (later_is layout by_log program is_there r.before root nothing so.0) (later_came layout by_log program is_there r.before root nothing so.1) (begin_shares layout by_log program lawful fixed tells left))

@@ -1,7 +1,8 @@
 -- A task that would make a record more than the whole run may: its trace goes on.
-use Rattle.std.proofs.Common.{◌≡◌, refl, ap, sym, ◌∙◌, ℕ, ◌+◌, ◌-◌, ◌<◌, List, [], ◌++◌, length, ℤ, arith}
+use Rattle.std.proofs.Common.{◌≡◌, refl, ap, sym, ◌∙◌, subst, ℕ, ◌+◌, ◌-◌, ◌<◌, List, [], ◌∷◌, ◌++◌, length, ℤ, arith}
 use Rattle.std.proofs.lemmas.List.{append-nil}
 use Rattle.log_format.specs.Limit.{record_limit}
+use Rattle.log_format.specs.declared.record.Kind.{Kind}
 use Rattle.log_format.specs.declared.record.Kind.TheVariants as kind
 use Rattle.log_format.specs.declared.record.Record.{Record}
 use Rattle.kernel_syntax.specs.Program.{Program}
@@ -13,13 +14,29 @@ use Rattle.kernel_model.specs.declared.stop.StopWhy.TheVariants.{LogFull}
 use Rattle.kernel_model.proofs.Effects.{reads_of-append, chunks_of-append}
 use Rattle.serial_run.proofs.Coming.{room_log}
 use Rattle.serial_run.specs.Coming.{IsAtStart, Comes}
-use Rattle.serial_run.specs.Going.{SerialProgress, RanPart, room_of}
+use Rattle.serial_run.specs.Going.{SerialProgress, FindsValue, words_after, Finds, RanPart, room_of}
 use Rattle.serial_run.specs.Placing.{ElementLayout, OfLog}
 use Rattle.serial_run.specs.Stepping.{Stand, stand_left}
 use Rattle.serial_steps.specs.Lanes.{SerialTask, HasMore}
 use Rattle.serial_team.specs.Stopping.{bounded}
 use Rattle.serial_laws.proofs.Rooms.{IsWanting, GoesOn, Rooms, goes_past, put-roomy, rest-roomy, roomy}
 use Rattle.serial_laws.proofs.StoppedTasks.{task_from}
+
+-- how many records a task may make changes nothing of what they find
+module _ (layout : ElementLayout) where
+  words_alike : (k : Kind) (r : Record) (words : List ℕ) → words_after (bounded layout) k r words ≡ words_after layout k r words
+  words_alike kind.Write r words = refl
+  words_alike _ r words = refl
+
+  value_alike : (k : Kind) (r : Record) (words : List ℕ) → FindsValue (bounded layout) k r words → FindsValue layout k r words
+  value_alike kind.Read r words f = (record { element = f.0.element; within = f.0.within }, f.1)
+  value_alike kind.Write r words f = (record { element = f.0.element; within = f.0.within }, f.1)
+  value_alike _ r words f = tt
+
+  pub finds_alike : (rs : List Record) (old new : List ℕ) → Finds (bounded layout) rs old new → Finds layout rs old new
+  finds_alike [] old new f = f
+  finds_alike (r ∷ rs) old new f =
+      (value_alike r.kind r old f.0, subst (λ (w : List ℕ). Finds layout rs w new) (words_alike r.kind r old) (finds_alike rs (words_after (bounded layout) r.kind r old) new f.1))
 
 -- the trace wants a value
 pub wanting : (o : Outcome (Unit {0})) → IsWanting o → ending_of o ≡ Wanting
