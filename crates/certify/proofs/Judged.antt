@@ -26,6 +26,7 @@ use Rattle.certify.specs.Holding.{HoldsTasks, KeepRules}
 use Rattle.certify.specs.Verdicts.{HasCertainRun, HasRaces, OpensOneTooMany, RunSpells, RunsTo, record_total}
 use Rattle.folder_races.proofs.FewSegments.{few_segments}
 use Rattle.certify.proofs.TooMany.{opens_the_first}
+use Rattle.certify.specs.declared.certifying.TheConstants.{MOST_RECORDS}
 
 counts_spelled : (tasks : Trace) → sum_by (λ (log : WholeLog). log.count) (map spelled tasks) ≡ record_total tasks
 counts_spelled [] = refl
