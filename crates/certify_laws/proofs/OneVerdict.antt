@@ -78,7 +78,7 @@ module _ (program : Program) (lawful : IsLawful program) where
   same_words : (ts us : Trace) (words final : List ℕ) → RunsTo program ts words → RunsTo program us final → final ≡ words
   same_words ts us words final a b = same_number_lists final words (b.all ∙ sym a.all) each where
     memory : b.memory ≡ a.memory
-    memory = (ends_once a.made b.made a.memory b.memory Still.at_end Still.at_end a.fixed a.goes b.goes).1.0
+    memory = (ends_once a.made b.made a.memory b.memory Still.at_end Still.at_end a.fixed a.goes b.goes).1
 
     each : (k : ℕ) → k < length final → get_or final k 0 ≡ get_or words k 0
     each k less =
@@ -117,13 +117,13 @@ module _ (program : Program) (lawful : IsLawful program) where
   -- ---- one end
 
   same_end : (end other : Still) → EndsAs program end → EndsAs program other → other ≡ end
-  same_end end other a b = (ends_once a.1.tasks b.1.tasks a.1.memory b.1.memory end other a.0 a.1.goes b.1.goes).1.1
+  same_end end other a b = (ends_once a.1.tasks b.1.tasks a.1.memory b.1.memory end other a.0 a.1.goes b.1.goes).2
 
   long_or_ran : (path : List Step) (n : ℕ) (tasks : Trace) (words : List ℕ) → EndsAs program (Still.too_long path n) → RunsTo program tasks words → ⊥
-  long_or_ran path n tasks words l r = let same = (ends_once l.1.tasks r.made l.1.memory r.memory (Still.too_long path n) Still.at_end l.0 l.1.goes r.goes).1.1 in cc
+  long_or_ran path n tasks words l r = let same = (ends_once l.1.tasks r.made l.1.memory r.memory (Still.too_long path n) Still.at_end l.0 l.1.goes r.goes).2 in cc
 
   stop_or_ran : (path : List Step) (line : ℕ) (why : StopWhy) (tasks : Trace) (words : List ℕ) → EndsAs program (Still.stopped path line why) → RunsTo program tasks words → ⊥
-  stop_or_ran path line why tasks words l r = let same = (ends_once l.1.tasks r.made l.1.memory r.memory (Still.stopped path line why) Still.at_end l.0 l.1.goes r.goes).1.1 in cc
+  stop_or_ran path line why tasks words l r = let same = (ends_once l.1.tasks r.made l.1.memory r.memory (Still.stopped path line why) Still.at_end l.0 l.1.goes r.goes).2 in cc
 
   long_or_stop : (path other : List Step) (n line : ℕ) (why : StopWhy) → EndsAs program (Still.too_long path n) → EndsAs program (Still.stopped other line why) → ⊥
   long_or_stop path other n line why l s = let same = same_end (Still.too_long path n) (Still.stopped other line why) l s in cc
