@@ -12,7 +12,7 @@ use Rattle.kernel_model.specs.Value.{value, read}
 use Rattle.kernel_model.specs.Folder.{root_start, IsTracedTo}
 use Rattle.execution_model.specs.Execution.{BeginsTrace}
 use Rattle.execution_model.specs.Runs.{lane_begin}
-use Rattle.serial_steps.specs.Lanes.{Shared, SerialTask, after_record, ForksNext, past_lanes, told, Still, TaskGoes, PhaseGoes, RegionGoes, GoesSerially}
+use Rattle.serial_steps.specs.Lanes.{Shared, SerialTask, after_record, ForksNext, HasMore, past_lanes, told, Still, TaskGoes, PhaseGoes, RegionGoes, GoesSerially}
 use Rattle.run_cases.specs.TwoLanes.{accessed, body, kernel, memory, team_path, first_log, second_log, tasks, tasks_of}
 
 abbrev fork : state.Fork
@@ -55,6 +55,10 @@ second_reads = record { rest = accessed kind.Write 6 3 4104 1 ∷ barrier 7 ∷ 
 second_writes : BeginsTrace kernel (lane_begin fork 1) (take 3 (second_log 1))
 unfolding run value put read draw task wrapped
 second_writes = record { rest = barrier 7 ∷ barrier 8 ∷ event kind.End 9 0 0 ∷ []; begins = refl }
+
+second_has_more : HasMore kernel (lane 1 (take 3 (second_log 1)))
+unfolding run value put read draw task wrapped
+second_has_more = record { more = barrier 7 ∷ barrier 8 ∷ event kind.End 9 0 0 ∷ []; begins = refl; wants = λ is. absurd cc }
 
 second_rests : BeginsTrace kernel (lane_begin fork 1) (second_log 1)
 unfolding run value put read draw task wrapped
@@ -138,6 +142,6 @@ is_too_long = record {
   left = 0;
   goes =
       root_goes 6 (omega arith) (lane 1 (take 3 (second_log 1))) (copied 6 (omega arith)) (Still.too_long (team_path 1) 4)
-      (TaskGoes.would_make (lane 1 (take 3 (second_log 1))) (copied 6 (omega arith)) (record { more = second_writes.rest; begins = second_writes.begins; wants = λ is. absurd cc }) refl) (λ is. cc) (λ is. cc);
+      (TaskGoes.would_make (lane 1 (take 3 (second_log 1))) (copied 6 (omega arith)) second_has_more refl) (λ is. cc) (λ is. cc);
   tasks_are = refl;
 }
